@@ -1,0 +1,6 @@
+pub mod Blends
+pub mod Floors
+pub mod Laws
+pub mod Lists
+pub mod Order
+pub mod Ring
