@@ -1,0 +1,5 @@
+pub mod Box
+pub mod Mesh
+pub mod Spots
+pub mod Vectors
+pub mod Wide

@@ -1,0 +1,39 @@
+//! A mesh of tetrahedra.
+ghost use Rattle.std.specs.Prelude.{◌≡◌, ◌<◌, ◌^◌, length};
+ghost use Rattle.space3.specs.Mesh.{rest_determinant, place_of, HasNodes};
+ghost use Rattle.space3.specs.Vectors.{Within, difference};
+
+use crate::lists::{NodeNumbers, Tet, TetList};
+use crate::places::Places;
+use crate::vectors::{V3, det, sub};
+
+/// A mesh as three lists in the file's order: the nodes' numbers, their places, and the tetrahedra.
+#[derive(Drop)]
+pub struct Mesh {
+    pub numbers: NodeNumbers,
+    pub places: Places,
+    pub tets: TetList,
+}
+
+// The edge between two nodes.
+fn edge(places: &Places, from: u32, to: u32) -> V3
+    requires from { from < length places.now }
+    requires to { to < length places.now }
+    ensures value { result ≡ difference (place_of places.now to) (place_of places.now from) }
+    ensures bound { Within (2 ^ 30) result }
+{
+    sub(places.get(to), places.get(from))
+}
+
+/// The determinant of a tetrahedron's three edges from its first node, which is six times its signed volume,
+/// in cubed grid units.
+pub fn rest_det(places: &Places, tet: &Tet) -> i128
+    requires { HasNodes places.now tet.now.nodes }
+    ensures { result ≡ rest_determinant places.now tet.now.nodes }
+{
+    let first = tet.nodes[0];
+    let u = edge(places, first, tet.nodes[1]);
+    let v = edge(places, first, tet.nodes[2]);
+    let w = edge(places, first, tet.nodes[3]);
+    det(u, v, w)
+}

@@ -1,0 +1,13 @@
+//! Up to four points, as the corners of a part.
+ghost use Rattle.std.specs.Prelude.{◌≤◌};
+
+use crate::vectors::V3;
+
+/// A list of `count` points, 1 to 4: the first `count` of `at`, in grid units.
+#[derive(Clone, Copy, PartialEq, Eq, Debug)]
+pub struct Spot {
+    pub count: u8,
+    pub at: [V3; 4],
+    pub ghost some: { 1 ≤ count },
+    pub ghost few: { count ≤ 4 },
+}

@@ -1,0 +1,118 @@
+//! Vectors in grid units, their differences and determinants.
+ghost use Rattle.std.specs.Prelude.{◌≡◌, ◌^◌, ◌≤◌, ◌-ℤ◌, ◌*ℤ◌, ◌+ℤ◌};
+ghost use Rattle.space3.specs.Vectors.{AtMost, Within, difference, dot_product, cross_product, determinant};
+ghost use Rattle.space3.specs.Wide.{unbounded};
+
+/// A vector of whole numbers, in grid units.
+#[derive(Clone, Copy, PartialEq, Eq, Debug)]
+pub struct V3 {
+    pub x: i64,
+    pub y: i64,
+    pub z: i64,
+}
+
+/// A vector whose components are products of two numbers.
+#[derive(Clone, Copy, PartialEq, Eq, Debug)]
+struct W3 {
+    x: i128,
+    y: i128,
+    z: i128,
+}
+
+fn times(a: i64, b: i64) -> i128
+    ensures { result ≡ a *ℤ b }
+{
+    a as i128 * b as i128
+}
+
+fn times_wide(a: i64, b: i128) -> i128
+    requires left { AtMost (2 ^ 30) a }
+    requires right { AtMost (2 ^ 62) b }
+    ensures { result ≡ a *ℤ b }
+{
+    a as i128 * b
+}
+
+fn plus(a: i128, b: i128) -> i128
+    requires left { AtMost (2 ^ 125) a }
+    requires right { AtMost (2 ^ 125) b }
+    ensures { result ≡ a +ℤ b }
+{
+    a + b
+}
+
+fn minus(a: i128, b: i128) -> i128
+    requires left { AtMost (2 ^ 125) a }
+    requires right { AtMost (2 ^ 125) b }
+    ensures { result ≡ a -ℤ b }
+{
+    a - b
+}
+
+fn less(a: i64, b: i64) -> i64
+    requires left { AtMost (2 ^ 30) a }
+    requires right { AtMost (2 ^ 30) b }
+    ensures { result ≡ a -ℤ b }
+{
+    a - b
+}
+
+/// The difference `a − b`. Components are at most 2^30 in absolute value.
+pub fn sub(a: V3, b: V3) -> V3
+    requires left { Within (2 ^ 30) a }
+    requires right { Within (2 ^ 30) b }
+    ensures { result ≡ difference a b }
+{
+    V3 {
+        x: less(a.x, b.x),
+        y: less(a.y, b.y),
+        z: less(a.z, b.z),
+    }
+}
+
+/// The minor `a·d − b·c`.
+fn minor(a: i64, b: i64, c: i64, d: i64) -> i128
+    requires top_left { AtMost (2 ^ 30) a }
+    requires top_right { AtMost (2 ^ 30) b }
+    requires low_left { AtMost (2 ^ 30) c }
+    requires low_right { AtMost (2 ^ 30) d }
+    ensures value { result ≡ a *ℤ d -ℤ b *ℤ c }
+    ensures bound { AtMost (2 ^ 61) result }
+{
+    minus(times(a, d), times(b, c))
+}
+
+/// The cross product.
+fn cross(a: V3, b: V3) -> W3
+    requires left { Within (2 ^ 30) a }
+    requires right { Within (2 ^ 30) b }
+    ensures value { unbounded result ≡ cross_product a b }
+    ensures bound { Within (2 ^ 61) (unbounded result) }
+{
+    W3 {
+        x: minor(a.y, a.z, b.y, b.z),
+        y: minor(a.z, a.x, b.z, b.x),
+        z: minor(a.x, a.y, b.x, b.y),
+    }
+}
+
+fn dot_wide(a: V3, b: W3) -> i128
+    requires left { Within (2 ^ 30) a }
+    requires right { Within (2 ^ 61) (unbounded b) }
+    ensures { result ≡ dot_product a (unbounded b) }
+{
+    plus(
+        plus(times_wide(a.x, b.x), times_wide(a.y, b.y)),
+        times_wide(a.z, b.z),
+    )
+}
+
+/// The determinant `a · (b × c)`. Components are at most 2^30 in absolute value.
+pub fn det(a: V3, b: V3, c: V3) -> i128
+    requires first { Within (2 ^ 30) a }
+    requires second { Within (2 ^ 30) b }
+    requires third { Within (2 ^ 30) c }
+    ensures { result ≡ determinant a b c }
+{
+    dot_wide(a, cross(b, c))
+}
