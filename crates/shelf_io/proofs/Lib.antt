@@ -1,0 +1,4 @@
+pub mod Pieces
+pub mod FilesKept
+pub mod Reading
+pub mod FilesFound

@@ -1,0 +1,5 @@
+pub mod Shelf
+pub mod Whole
+pub mod MemState
+pub mod MemView
+pub mod MemCode

@@ -1,0 +1,65 @@
+//! Counts of faults, and the calls that a device in memory is to fail.
+ghost use Rattle.std.specs.Prelude.{◌≡◌, ◌≤◌, ◌++◌, ◌∷◌, ◌↔◌, [], OnOk, OnErr, IsTrue};
+ghost use Rattle.shelf_io.specs.Shelf.{Rose};
+ghost use Rattle.shelf_io.specs.MemState.{IsDue, after_call};
+
+use crate::Failed;
+use std::alloc::{AllocError, Global};
+use std::marker::Model;
+
+/// Counts a fault. The count stays at its last value.
+pub(crate) fn fault(count: &mut u64) -> Failed
+    ensures rose { Rose count.old count.new }
+    ensures later { count.old ≤ count.new }
+{
+    *count = count.saturating_add(1);
+    Failed
+}
+
+/// How many calls there were, and the numbers of those that are to fail.
+#[derive(Drop)]
+pub(crate) struct Plan {
+    calls: u64,
+    failing: Vec<u64>,
+}
+
+impl Model for Plan {
+    ghost use Rattle.shelf_io.specs.MemState.{CallPlan};
+    ghost use Rattle.shelf_io.specs.MemCode.{plan_code};
+
+    ghost Value = { CallPlan };
+
+    ghost coded = { plan_code };
+
+    ghost view = { λ p. record { calls = p.calls; failing = p.failing.items } };
+}
+
+impl Plan {
+    /// No call yet, and none that is to fail.
+    pub(crate) fn new(alloc: Global) -> Self
+        ensures { result ≡ record { calls = 0; failing = [] } }
+    {
+        Plan {
+            calls: 0,
+            failing: Vec::new(alloc),
+        }
+    }
+
+    /// Adds a number to those that are to fail.
+    pub(crate) fn add(&mut self, call: u64) -> Result<(), AllocError>
+        ensures ok { OnOk result (self.new ≡ record self.old { failing = self.old.failing ++ call ∷ [] }) }
+        ensures err { OnErr result (self.new ≡ self.old) }
+    {
+        self.failing.push(call)?;
+        Ok(())
+    }
+
+    /// Counts a call, and says whether it is to fail.
+    pub(crate) fn is_due(&mut self) -> bool
+        ensures after { self.new ≡ after_call self.old }
+        ensures due { IsTrue result ↔ IsDue self.old }
+    {
+        self.calls = self.calls.saturating_add(1);
+        self.failing.contains(&self.calls)
+    }
+}

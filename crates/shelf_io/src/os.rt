@@ -1,0 +1,125 @@
+//! The shelf and the sink of the system, the trusted edge: they tell nothing of content, and count each error.
+ghost use Rattle.std.specs.Prelude.{◌≡◌, None, is_some, false};
+ghost use Rattle.shelf_io.specs.Shelf.{nothing_told};
+
+use crate::faults::fault;
+use crate::{Failed, Shelf, Sink};
+use std::fs;
+use std::io::{Read, Write};
+use std::rt::Files;
+
+/// The files of the system.
+#[derive(Drop)]
+pub struct OsShelf<R: Files + Drop> {
+    files: R,
+    opened: Option<R::File>,
+    making: Option<R::File>,
+    taken: u64,
+    read_faults: u64,
+    write_faults: u64,
+}
+
+impl<R: Files + Drop> OsShelf<R> {
+    /// A shelf of the files that the runtime reaches, with no file open and none being made.
+    pub fn new(files: R) -> Self
+        ensures { ⟦<OsShelf<R> as Shelf>⟧.state result ≡ nothing_told false false 0 0 0 }
+    {
+        OsShelf {
+            files,
+            opened: None,
+            making: None,
+            taken: 0,
+            read_faults: 0,
+            write_faults: 0,
+        }
+    }
+}
+
+impl<R: Files + Drop> Shelf for OsShelf<R> {
+    ghost state = { λ s. nothing_told (is_some s.opened) (is_some s.making) s.taken s.read_faults s.write_faults };
+
+    ghost tells = { λ _. record { opened = tt; unread = tt; making = tt } };
+
+    fn open(&mut self, name: &str) -> Result<(), Failed> {
+        self.making = None;
+        self.taken = 0;
+        match fs::open(&self.files, name) {
+            Ok(file) => {
+                self.opened = Some(file);
+                Ok(())
+            }
+            Err(_) => {
+                self.opened = None;
+                Err(fault(&mut self.read_faults))
+            }
+        }
+    }
+
+    fn read(&mut self, buf: &mut [u8]) -> Result<usize, Failed> {
+        if let Some(file) = &mut self.opened
+            && let Ok(n) = file.read(buf)
+        {
+            self.taken = self.taken.saturating_add(n as u64);
+            return Ok(n);
+        }
+        Err(fault(&mut self.read_faults))
+    }
+
+    fn create(&mut self, name: &str) -> Result<(), Failed> {
+        self.opened = None;
+        match fs::create(&self.files, name) {
+            Ok(file) => {
+                self.making = Some(file);
+                Ok(())
+            }
+            Err(_) => {
+                self.making = None;
+                Err(fault(&mut self.write_faults))
+            }
+        }
+    }
+
+    fn write(&mut self, piece: &[u8]) -> Result<usize, Failed> {
+        if let Some(file) = &mut self.making
+            && let Ok(n) = file.write(piece)
+            && (n > 0 || piece.is_empty())
+        {
+            return Ok(n);
+        }
+        Err(fault(&mut self.write_faults))
+    }
+
+    fn finish(&mut self) -> Result<(), Failed> {
+        self.making = None;
+        Ok(())
+    }
+}
+
+/// Standard output.
+#[derive(Drop)]
+pub struct OsSink<R: Print + Drop> {
+    out: R,
+    faults: u64,
+}
+
+impl<R: Print + Drop> OsSink<R> {
+    /// A sink of the standard output that the runtime reaches.
+    pub fn new(out: R) -> Self
+        ensures { ⟦<OsSink<R> as Sink>⟧.state result ≡ record { written = None; faults = 0 } }
+    {
+        OsSink { out, faults: 0 }
+    }
+}
+
+impl<R: Print + Drop> Sink for OsSink<R> {
+    ghost state = { λ s. record { written = None; faults = s.faults } };
+
+    fn write(&mut self, piece: &[u8]) -> Result<usize, Failed> {
+        if let Ok(n) = self.out.write_some(piece)
+            && (n > 0 || piece.is_empty())
+        {
+            return Ok(n);
+        }
+        Err(fault(&mut self.faults))
+    }
+}
