@@ -1,0 +1,12 @@
+pub mod Again
+pub mod Different
+pub mod Elements
+pub mod Example
+pub mod Fields
+pub mod Found
+pub mod FrameLines
+pub mod Loops
+pub mod NodeLoop
+pub mod Refusals
+pub mod Steps
+pub mod Words

@@ -1,0 +1,18 @@
+use Rattle.std.proofs.Common.{◌≡◌, ◌++◌, ◌∙◌, ap, get_or, slice_get, Some, arith}
+use Rattle.std.proofs.lemmas.Option.{slice_get-get_or}
+use Rattle.std.specs.Prelude.{map}
+use Rattle.std.specs.List.{flat_map}
+use Rattle.msh_text.specs.Frame.{line_of, node_row}
+use Rattle.msh_text.proofs.FrameLines.{node_lines_more, all_nodes}
+use Rattle.msh_text.proofs.frame.add_nodes.Goals as goal
+
+pub loop-i-preserved : goal.loop-i-preserved
+loop-i-preserved c =
+    let number : slice_get c.args.numbers.now c.loop-i.i ≡ Some (get_or c.args.numbers.now c.loop-i.i 0) = slice_get-get_or c.args.numbers.now c.loop-i.i 0 (omega (arith, c.requires, c.len-i-end.ensures, c.loop-i-test.true)) in
+    node_lines_more c.loop-i.i c.args.out.now.items c.loop-i.out.items c.add_node.new.out.items c.args.numbers.now c.args.places.now (get_or c.args.numbers.now c.loop-i.i 0) c.get.result number c.get.ensures.place
+    c.loop-i.invariant c.in_ok-add_node.ensures
+
+pub returns : goal.returns
+returns c =
+    let all = all_nodes c.loop-i.i c.args.numbers.now c.args.places.now (omega (arith, c.len-i-end.ensures)) in
+    c.loop-i.invariant ∙ ap (λ t. c.args.out.now.items ++ flat_map line_of (map node_row t)) all

@@ -1,0 +1,5 @@
+use Rattle.msh_text.proofs.Again as again
+use Rattle.msh_text.proofs.laws.one_mesh.Goals as goal
+
+pub returns : goal.returns
+returns c = again.one_mesh

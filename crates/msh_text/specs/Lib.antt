@@ -1,0 +1,5 @@
+pub mod Elements
+pub mod FirstForm
+pub mod Frame
+pub mod Gives
+pub mod Reading

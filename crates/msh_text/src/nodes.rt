@@ -1,0 +1,65 @@
+//! The nodes of a mesh text.
+ghost use Rattle.std.specs.Prelude.{◌≡◌, ◌<◌, ◌^◌, [], ℕ, length};
+ghost use Rattle.std.specs.Ordering.{nat_cmp};
+ghost use Rattle.std.specs.BTreeMap.{get};
+ghost use Rattle.line_fields.specs.Lines.{rows};
+ghost use Rattle.msh_text.specs.FirstForm.{position_of};
+ghost use Rattle.msh_text.specs.Reading.{nodes_of, nodes_at};
+ghost use Rattle.msh_text.specs.Gives.{Gives};
+
+use crate::lines::node;
+use crate::refusal::{FIRST_FORM, ReadMshErr};
+use line_fields::next_row;
+use space3::V3;
+use std::alloc::Global;
+use std::collections::BTreeMap;
+
+/// Nodes in the order of the text: their numbers, all different, their places, and a map from each number to its
+/// position.
+#[derive(Drop)]
+pub struct Nodes {
+    pub numbers: Vec<u32>,
+    pub places: Vec<V3>,
+    positions: BTreeMap<u32, u32>,
+    ghost few: { length places.items < 2 ^ 32 },
+    ghost indexed: { (number : ℕ) → get nat_cmp positions number ≡ position_of numbers.items number },
+}
+
+impl Nodes {
+    /// The position of the node of a number.
+    pub fn position(&self, number: u32) -> Option<u32>
+        ensures { result ≡ position_of self.now.numbers.items number }
+    {
+        self.positions.get(&number).copied()
+    }
+}
+
+/// So many nodes from the lines of a text, and what follows them.
+pub fn read_nodes(alloc: Global, count: u32, text: &[u8]) -> Result<(Nodes, &[u8]), ReadMshErr>
+    ensures { Gives (λ x. (nodes_of x.0.numbers.items x.0.places.items, rows x.1.now)) result (nodes_at count (nodes_of [] []) (rows text.now)) }
+{
+    let mut numbers = Vec::new(alloc);
+    let mut places = Vec::new(alloc);
+    let mut positions = BTreeMap::new(alloc);
+    let mut rest = text;
+    for i in 0..count {
+        let Some((line, after)) = next_row(rest) else {
+            return Err(FIRST_FORM);
+        };
+        let Some((number, place)) = node(line) else {
+            return Err(FIRST_FORM);
+        };
+        if positions.insert(number, i)?.is_some() {
+            return Err(FIRST_FORM);
+        }
+        numbers.push(number)?;
+        places.push(place)?;
+        rest = after;
+    }
+    let nodes = Nodes {
+        numbers,
+        places,
+        positions,
+    };
+    Ok((nodes, rest))
+}
