@@ -1,0 +1,4 @@
+pub mod ActsDone
+pub mod Causes
+pub mod Outcomes
+pub mod RunsOn

@@ -1,0 +1,9 @@
+use Rattle.std.proofs.Common.{[], ◌∷◌, refl}
+use Rattle.ipc_top.specs.Acts.{Say, Next}
+use Rattle.ipc_top.proofs.ActsDone.{stops_first}
+use Rattle.ipc_top.proofs.acts.say.Goals as goal
+
+pub returns-in-Err : goal.returns-in-Err
+returns-in-Err g c = λ s.
+    let h = c.in-Err.ensures in
+    stops_first (Say c.args.line.now ∷ []) (record { line = c.args.line.now; part = h.part.0; which = Next [] refl refl; written = h.part.1; rose = h.faults.failed })

@@ -1,0 +1,5 @@
+pub mod Acts
+pub mod Ends
+pub mod Lines
+pub mod Orders
+pub mod Words

@@ -1,0 +1,95 @@
+//! The acts of a run, each done whole or stopped.
+ghost use Rattle.std.specs.Prelude.{◌≡◌, ◌∷◌, [], ◌≤◌, ◌+◌, length, IfOk, IfSome, IfNone, option_map};
+ghost use Rattle.std.specs.FinMap.{get};
+ghost use Rattle.shelf_io.specs.Shelf.{ShelfState};
+ghost use Rattle.ipc_top.specs.Acts.{Take, Put, Say, Does, world};
+ghost use Rattle.ipc_top.specs.Orders.{mesh_limit};
+ghost use Rattle.ipc_top.specs.Ends.{IsTaken};
+
+use crate::lines::{read_fault_line, write_fault_line};
+use shelf_io::{ReadErr, Shelf, Sink, read_all, say_all, write_all};
+use std::alloc::{AllocError, Global};
+
+/// The most bytes that a mesh file may have.
+pub const MESH_LIMIT: u64 = 268_435_456;
+
+/// Why a run ended before its last act.
+#[derive(Clone, Copy, Debug, PartialEq, Eq)]
+pub enum Stop {
+    /// A file could not be read.
+    Read,
+    /// A file could not be written.
+    Write,
+    /// A line could not be said.
+    Console,
+    /// Memory was wanting.
+    Memory,
+}
+
+impl From<AllocError> for Stop {
+    ghost use Rattle.std.specs.Prelude.{◌≡◌};
+    ghost use Rattle.ipc_top.specs.declared.acts.Stop.TheVariants.{Memory};
+
+    ghost from_gives = { λ _ e. e ≡ Memory };
+
+    fn from(_: AllocError) -> Self {
+        Stop::Memory
+    }
+}
+
+/// Says a line.
+pub fn say<C: Sink>(console: &mut C, line: &[u8]) -> Result<(), Stop>
+    ensures { (s : ShelfState) → Does (Say line.now ∷ []) result
+        (world s (C.state console.old)) (world s (C.state console.new)) }
+{
+    match say_all(console, line) {
+        Ok(()) => Ok(()),
+        Err(_) => Err(Stop::Console),
+    }
+}
+
+/// Makes a file of a text. Where the shelf fails, it says so.
+pub fn put<S: Shelf, C: Sink>(
+    alloc: Global,
+    shelf: &mut S,
+    console: &mut C,
+    name: &str,
+    text: &[u8],
+) -> Result<(), Stop>
+    ensures { Does (Put name.now text.now ∷ []) result
+        (world (S.state shelf.old) (C.state console.old)) (world (S.state shelf.new) (C.state console.new)) }
+{
+    let line = write_fault_line(alloc, name)?;
+    match write_all(shelf, name, text) {
+        Ok(()) => Ok(()),
+        Err(_) => match say_all(console, &line) {
+            Ok(()) => Err(Stop::Write),
+            Err(_) => Err(Stop::Console),
+        },
+    }
+}
+
+/// Takes a mesh file, or gives None where it is longer than the limit. Where the shelf fails, it says so.
+pub fn take_mesh<S: Shelf, C: Sink>(
+    alloc: Global,
+    shelf: &mut S,
+    console: &mut C,
+    name: &str,
+) -> Result<Option<Vec<u8>>, Stop>
+    ensures does { Does (Take name.now ∷ []) result
+        (world (S.state shelf.old) (C.state console.old)) (world (S.state shelf.new) (C.state console.new)) }
+    ensures told { IfOk result (λ taken. IfSome (S.state shelf.old).files (λ files. IsTaken (get files name.now) (option_map (λ v. v.items) taken))) }
+    ensures within { IfOk result (λ taken. IfSome taken (λ v. length v.items ≤ mesh_limit)) }
+    ensures too_long { IfOk result (λ taken. IfNone taken ((S.state shelf.new).taken ≡ mesh_limit + 1)) }
+{
+    let line = read_fault_line(alloc, name)?;
+    match read_all(alloc, shelf, name, MESH_LIMIT) {
+        Ok(bytes) => Ok(Some(bytes)),
+        Err(ReadErr::TooLong { .. }) => Ok(None),
+        Err(ReadErr::Memory) => Err(Stop::Memory),
+        Err(ReadErr::Failed) => match say_all(console, &line) {
+            Ok(()) => Err(Stop::Read),
+            Err(_) => Err(Stop::Console),
+        },
+    }
+}
