@@ -1,0 +1,12 @@
+pub mod BoxLemmas
+pub mod Certified
+pub mod Ends
+pub mod ExampleLemmas
+pub mod HalfIntervals
+pub mod Halving
+pub mod Inside
+pub mod PlainLemmas
+pub mod Separation
+pub mod Standing
+pub mod VectorForms
+pub mod Volumes
