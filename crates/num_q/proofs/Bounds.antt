@@ -1,0 +1,179 @@
+-- sums, products and quotients below a power of two
+use Rattle.std.proofs.Common.{◌≡◌, ℕ, zero, suc, ◌+◌, ◌-◌, ◌*◌, ◌/◌, ◌%◌, ◌≤◌, ◌<◌, ◌^◌, ℤ, pos, negsuc, ◌+ℤ◌, ◌-ℤ◌, ◌*ℤ◌, neg_ℤ, ◌≤ℤ◌, ◌<ℤ◌, unsigned_abs, sym, ◌∙◌, ap, subst, arith, to_z, of_z, FitsSigned, mul-le-mul}
+use Rattle.std.proofs.Math.Pow.{pow_mono}
+use Rattle.std.proofs.lemmas.Nat.{pow-add, mul-lt, pow_pos, one_shl}
+use Rattle.std.specs.Int.{w128, int_shr, int_div_euclid, int_min, int_max}
+use Rattle.std.proofs.lemmas.Int.{ints, clamps, unsigned_abs-mul, fits_signed_from_abs, to_z-of_z, to_z_pos}
+use Rattle.std.proofs.Math.Nat.{le_refl, div-eq_of_lt}
+use Rattle.std.proofs.lemmas.Bool.{cases_lt}
+use Rattle.std.proofs.Common.{min, inl, inr}
+use lib.Signed.{mag}
+use Rattle.whole_laws.proofs.Order.{size_sum, size_diff}
+use Rattle.whole_laws.proofs.Floors.{shr-is, floor_size}
+use Rattle.num_q.specs.Rounding.{floor_of, cut_of}
+
+abbrev pub back : ℤ → ℤ
+back z = to_z w128 (of_z w128 z)
+
+-- x is z, and below 2 ^ k, also after it went to its bits and back
+pub record Fine (x z : ℤ) (k : ℕ) : Type 0 where
+  pub fits : FitsSigned w128 x
+  pub same : back x ≡ z
+  pub below : unsigned_abs (back x) < 2 ^ k
+
+small : (z : ℤ) (k : ℕ) → unsigned_abs z < 2 ^ k → k ≤ 126 → FitsSigned w128 z
+small z k h l = fits_signed_from_abs w128 z (omega (arith, pow_mono {i = k} {j = 126} l))
+
+pub back-is : (z : ℤ) (k : ℕ) → unsigned_abs z < 2 ^ k → k ≤ 126 → back z ≡ z
+back-is z k h l = to_z-of_z w128 z (small z k h l)
+
+pub fine : (x z : ℤ) (k : ℕ) → x ≡ z → unsigned_abs z < 2 ^ k → k ≤ 126 → Fine x z k
+fine x z k e h l = let P : ℤ → Type 0 = λ y. Fine y z k in subst P (sym e) (record {
+  fits = small z k h l;
+  same = back-is z k h l;
+  below = rw (back-is z k h l) h;
+})
+
+twice : (k : ℕ) → 2 ^ (k + 1) ≡ 2 ^ k + 2 ^ k
+twice k = omega (arith, pow-add 2 k 1)
+
+sum_below : (a b : ℤ) (m n k : ℕ) → unsigned_abs a < 2 ^ m → unsigned_abs b < 2 ^ n → m < k → n < k → unsigned_abs (a +ℤ b) < 2 ^ k
+sum_below a b m n zero h q i j = absurd (omega arith)
+sum_below a b m n (suc k) h q i j =
+    omega (arith, size_sum a b, pow_mono {i = m} {j = k} (omega arith), pow_mono {i = n} {j = k} (omega arith))
+
+pub sum_fine : (a b : ℤ) (m n k : ℕ) → unsigned_abs a < 2 ^ m → unsigned_abs b < 2 ^ n → m < k → n < k → k ≤ 126 → Fine (back a +ℤ back b) (a +ℤ b) k
+sum_fine a b m n k h q i j l =
+    fine _ _ k (λ t. back-is a m h (omega arith) t +ℤ back-is b n q (omega arith) t) (sum_below a b m n k h q i j) l
+
+prod_below : (a b : ℤ) (m n k : ℕ) → unsigned_abs a < 2 ^ m → unsigned_abs b < 2 ^ n → m + n ≤ k → unsigned_abs (a *ℤ b) < 2 ^ k
+prod_below a b m n k h q i =
+    omega (arith, unsigned_abs-mul a b, mul-lt (unsigned_abs a) (unsigned_abs b) (2 ^ m) (2 ^ n) h q, pow-add 2 m n, pow_mono {i = m + n} {j = k} i)
+
+pub prod_fine : (a b : ℤ) (m n k : ℕ) → unsigned_abs a < 2 ^ m → unsigned_abs b < 2 ^ n → m + n ≤ k → k ≤ 126 → Fine (back a *ℤ back b) (a *ℤ b) k
+prod_fine a b m n k h q i l =
+    fine _ _ k (λ t. back-is a m h (omega arith) t *ℤ back-is b n q (omega arith) t) (prod_below a b m n k h q i) l
+
+size_neg : (a : ℤ) → unsigned_abs (pos 0 -ℤ a) ≡ unsigned_abs a
+size_neg a = omega (arith, ints)
+
+neg-is' : (a : ℤ) → pos 0 -ℤ a ≡ neg_ℤ a
+neg-is' a = omega (arith, ints)
+
+pub neg_fine : (a : ℤ) (k : ℕ) → unsigned_abs a < 2 ^ k → k ≤ 126 → Fine (pos 0 -ℤ back a) (neg_ℤ a) k
+neg_fine a k h l =
+    fine _ _ k (ap (λ z. pos 0 -ℤ z) (back-is a k h l) ∙ neg-is' a) (rw (← neg-is' a) (omega (arith, size_neg a))) l
+
+-- ---- rounding down
+pub shr_fine : (a : ℤ) (m n s : ℕ) → unsigned_abs a < 2 ^ m → m ≤ n → n ≤ 126 → Fine (int_shr (back a) s) (int_shr a s) n
+shr_fine a m n s h i l =
+    let p : pos 0 <ℤ pos (2 ^ s) = omega (arith, ints, pow_pos s) in
+    let q : unsigned_abs (int_shr a s) < 2 ^ n = rw (shr-is a s) (omega (arith, floor_size a (pos (2 ^ s)) p, pow_mono {i = m} {j = n} i)) in
+    fine _ _ n (ap (λ z. int_shr z s) (back-is a m h (omega arith))) q l
+
+one_shifted : (s : ℕ) → s ≤ 126 → to_z w128 (1 * 2 ^ s % 2 ^ 128) ≡ pos (2 ^ s)
+one_shifted s h =
+    let b : 2 ^ s < 2 ^ 127 = omega (arith, pow_mono {i = s} {j = 126} h) in
+    let e : 1 * 2 ^ s % 2 ^ 128 ≡ 2 ^ s = one_shl s 128 (omega arith) in
+    ap (to_z w128) e ∙ to_z_pos w128 (2 ^ s) b
+
+size_pow : (s : ℕ) → unsigned_abs (pos (2 ^ s)) < 2 ^ (s + 1)
+size_pow s = omega (arith, pow-add 2 s 1, pow_pos s)
+
+scaled_below : (a : ℤ) (m s k : ℕ) → unsigned_abs a < 2 ^ m → m + s ≤ k → unsigned_abs (a *ℤ pos (2 ^ s)) < 2 ^ k
+scaled_below a m s k h i =
+    let w : suc (unsigned_abs a) * 2 ^ s ≤ 2 ^ m * 2 ^ s = mul-le-mul h (le_refl (2 ^ s)) in
+    omega (arith, unsigned_abs-mul a (pos (2 ^ s)), w, pow-add 2 m s, pow_pos s, pow_mono {i = m + s} {j = k} i)
+
+pub scaled_fine : (a : ℤ) (m s k : ℕ) → unsigned_abs a < 2 ^ m → m + s ≤ k → k ≤ 126 → Fine (back a *ℤ to_z w128 (1 * 2 ^ s % 2 ^ 128)) (a *ℤ pos (2 ^ s)) k
+scaled_fine a m s k h i l =
+    fine _ _ k (λ t. back-is a m h (omega arith) t *ℤ one_shifted s (omega arith) t) (scaled_below a m s k h i) l
+
+-- the quotient q of what `scaled_fine` speaks of, by a divisor above 0
+pub floor_fine : (a d q : ℤ) (m n s k : ℕ) → unsigned_abs a < 2 ^ m → unsigned_abs d < 2 ^ n → n ≤ 126 → pos 0 <ℤ d → m + s ≤ k → k ≤ 126 →
+    q ≡ int_div_euclid (back (back a *ℤ to_z w128 (1 * 2 ^ s % 2 ^ 128))) (back d) → Fine q (int_div_euclid (a *ℤ pos (2 ^ s)) d) k
+floor_fine a d q m n s k h hd nn p i l e =
+    let f = scaled_fine a m s k h i l in
+    let w : unsigned_abs (int_div_euclid (a *ℤ pos (2 ^ s)) d) < 2 ^ k = omega (arith, floor_size (a *ℤ pos (2 ^ s)) d p, scaled_below a m s k h i) in
+    fine q _ k (e ∙ (λ t. int_div_euclid (f.same t) (back-is d n hd nn t))) w l
+
+-- a shift by more than 127 places is one by 127
+far : (a n : ℕ) → a < 2 ^ 127 → 127 ≤ n → a / 2 ^ n ≡ a / 2 ^ 127
+far a n h l = div-eq_of_lt (omega (arith, h, pow_mono {i = 127} {j = n} l)) ∙ sym (div-eq_of_lt h)
+
+mag_below : (z : ℤ) (m : ℕ) → unsigned_abs z < 2 ^ m → m ≤ 126 → mag z < 2 ^ 127
+mag_below (pos a) m h l = omega (arith, pow_mono {i = m} {j = 126} l)
+mag_below (negsuc a) m h l = omega (arith, pow_mono {i = m} {j = 126} l)
+
+shr_far : (z : ℤ) (n : ℕ) → mag z < 2 ^ 127 → 127 ≤ n → int_shr z 127 ≡ int_shr z n
+shr_far (pos a) n h l = ap pos (sym (far a n h l))
+shr_far (negsuc a) n h l = ap negsuc (sym (far a n h l))
+
+shr_min : (z : ℤ) (m n : ℕ) → unsigned_abs z < 2 ^ m → m ≤ 126 → int_shr z (min n 127) ≡ int_shr z n
+shr_min z m n h l = elim (cases_lt n 127) [
+  | inl k ↦ ap (int_shr z) (below n k)
+  | inr k ↦ ap (int_shr z) (above n k) ∙ shr_far z n (mag_below z m h l) k
+]
+  where
+    below : (n : ℕ) → n < 127 → min n 127 ≡ n
+    below n k = omega arith
+
+    above : (n : ℕ) → 127 ≤ n → min n 127 ≡ 127
+    above n k = omega arith
+
+pub down_fine : (a : ℤ) (m n s by : ℕ) → unsigned_abs a < 2 ^ m → m ≤ n → n ≤ 126 → by ≡ min s 127 → Fine (int_shr (back a) by) (floor_of a (pos (2 ^ s))) n
+down_fine a m n s by h i l e =
+    let f = shr_fine a m n by h i l in
+    let g : int_shr a by ≡ floor_of a (pos (2 ^ s)) = ap (int_shr a) e ∙ shr_min a m s h (omega arith) ∙ shr-is a s in
+    subst (λ (z : ℤ). Fine (int_shr (back a) by) z n) g f
+
+-- ---- a difference
+diff_below : (a b : ℤ) (m n k : ℕ) → unsigned_abs a < 2 ^ m → unsigned_abs b < 2 ^ n → m < k → n < k → unsigned_abs (a -ℤ b) < 2 ^ k
+diff_below a b m n zero h q i j = absurd (omega arith)
+diff_below a b m n (suc k) h q i j =
+    omega (arith, size_diff a b, pow_mono {i = m} {j = k} (omega arith), pow_mono {i = n} {j = k} (omega arith))
+
+pub diff_fine : (a b : ℤ) (m n k : ℕ) → unsigned_abs a < 2 ^ m → unsigned_abs b < 2 ^ n → m < k → n < k → k ≤ 126 → Fine (back a -ℤ back b) (a -ℤ b) k
+diff_fine a b m n k h q i j l =
+    fine _ _ k (λ t. back-is a m h (omega arith) t -ℤ back-is b n q (omega arith) t) (diff_below a b m n k h q i j) l
+
+-- ---- a cut
+-- 2 ^ s - 1, as it is computed
+abbrev pub top_of : ℕ → ℤ
+top_of s = to_z w128 (1 * 2 ^ s % 2 ^ 128) -ℤ pos 1
+
+pub top_fine : (s : ℕ) → s ≤ 126 → Fine (top_of s) (pos (2 ^ s - 1)) s
+top_fine s h = fine _ _ s (ap (λ z. z -ℤ pos 1) (one_shifted s h) ∙ less_one (2 ^ s) (pow_pos s)) (omega (arith, pow_pos s)) h
+  where
+    less_one : (n : ℕ) → 0 < n → pos n -ℤ pos 1 ≡ pos (n - 1)
+    less_one n p = omega (arith, ints)
+
+pub bottom_fine : (s : ℕ) → s ≤ 126 → Fine (pos 0 -ℤ back (top_of s)) (neg_ℤ (pos (2 ^ s - 1))) s
+bottom_fine s h =
+    fine _ _ s (ap (λ z. pos 0 -ℤ z) (top_fine s h).same ∙ neg-is' (pos (2 ^ s - 1))) (omega (arith, size_of_neg (2 ^ s - 1), pow_pos s)) h
+  where
+    size_of_neg : (n : ℕ) → unsigned_abs (neg_ℤ (pos n)) ≡ n
+    size_of_neg n = omega (arith, ints)
+
+size_cut : (a : ℤ) (n : ℕ) → unsigned_abs (int_max (neg_ℤ (pos n)) (int_min a (pos n))) ≤ n
+size_cut a n = omega (arith, ints, clamps)
+
+pub in_order : (s : ℕ) → s ≤ 126 → back (pos 0 -ℤ back (top_of s)) ≤ℤ back (top_of s)
+in_order s h = rw ((bottom_fine s h).same, (top_fine s h).same) (signs (2 ^ s - 1))
+  where
+    signs : (n : ℕ) → neg_ℤ (pos n) ≤ℤ pos n
+    signs n = omega (arith, ints)
+
+pub cut_fine : (a q : ℤ) (m s : ℕ) → unsigned_abs a < 2 ^ m → m ≤ 126 → s ≤ 126 →
+    q ≡ int_max (back (pos 0 -ℤ back (top_of s))) (int_min (back a) (back (top_of s))) → Fine q (cut_of s a) s
+cut_fine a q m s h l k e =
+    fine _ _ s (e ∙ (λ t. int_max ((bottom_fine s k).same t) (int_min (back-is a m h l t) ((top_fine s k).same t)))) (omega (arith, size_cut a (2 ^ s - 1), pow_pos s)) k
+
+pub cut_below : (b : ℕ) (z : ℤ) → unsigned_abs (cut_of b z) < 2 ^ b
+cut_below b z = omega (arith, size_cut z (2 ^ b - 1), pow_pos b)
+
+pub cut_same : (b : ℕ) (z : ℤ) → unsigned_abs z < 2 ^ b → cut_of b z ≡ z
+cut_same b z h = within z (2 ^ b - 1) (omega arith)
+  where
+    within : (z : ℤ) (n : ℕ) → unsigned_abs z ≤ n → int_max (neg_ℤ (pos n)) (int_min z (pos n)) ≡ z
+    within z n h = omega (arith, ints, clamps)
