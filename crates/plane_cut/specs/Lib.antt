@@ -1,0 +1,4 @@
+pub mod Cones
+pub mod Differences
+pub mod Flat
+pub mod Planes

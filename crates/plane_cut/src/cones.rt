@@ -1,0 +1,116 @@
+//! Planes through the third axis. The rows seen so far are kept as the cone that they span, by its
+//! outermost rows: the second variable is eliminated between these and each further row.
+ghost use Rattle.std.specs.Prelude.{◌≡◌, ◌^◌, ◌<◌, ◌≤◌, pos, ◌<ℤ◌, ◌≤ℤ◌, ◌-ℤ◌, ◌+ℤ◌, ◌*ℤ◌, unsigned_abs};
+ghost use Rattle.space3.specs.Vectors.{dot_product};
+ghost use Rattle.plane_cut.specs.Flat.{turn_of};
+ghost use Rattle.plane_cut.specs.Cones.{as_row, IsCone, Adds};
+
+use crate::rows::Flat;
+use num_q::Q;
+
+/// The cone that some flat rows span, by its outermost rows. From the first row of a wedge the turn to
+/// the second is to the left.
+#[derive(Clone, Copy)]
+pub enum Cone {
+    Empty,
+    Ray(Flat),
+    Wedge(Flat, Flat),
+}
+
+/// The raw number, which has at most 60 bits: a product of such numbers is one instruction.
+fn short(a: Q<0, 60>) -> i64
+    requires { unsigned_abs a.raw ≤ 2 ^ 59 }
+    ensures { result ≡ a.raw }
+{
+    a.raw() as i64
+}
+
+fn times(a: i64, b: i64) -> Q<0, 119>
+    requires left { unsigned_abs a ≤ 2 ^ 59 }
+    requires right { unsigned_abs b ≤ 2 ^ 59 }
+    ensures { result.raw ≡ a *ℤ b }
+{
+    Q::of_raw(a as i128 * b as i128)
+}
+
+fn product(a: Q<0, 60>, b: Q<0, 60>) -> Q<0, 119>
+    requires left { unsigned_abs a.raw ≤ 2 ^ 59 }
+    requires right { unsigned_abs b.raw ≤ 2 ^ 59 }
+    ensures { result.raw ≡ a.raw *ℤ b.raw }
+{
+    times(short(a), short(b))
+}
+
+/// How far b lies to the left of a: what is left of both rows when the second variable is eliminated.
+fn turn(a: Flat, b: Flat) -> Q<0, 120>
+    ensures { result.raw ≡ turn_of (as_row a) (as_row b) }
+{
+    product(a.x, b.y).sub_into(product(a.y, b.x))
+}
+
+fn scalar(a: Flat, b: Flat) -> Q<0, 120>
+    ensures { result.raw ≡ a.x.raw *ℤ b.x.raw +ℤ a.y.raw *ℤ b.y.raw }
+{
+    product(a.x, b.x).add_into(product(a.y, b.y))
+}
+
+fn ray(row: Flat) -> Option<Cone>
+    ensures { Adds Cone.Empty (λ n. pos 0 <ℤ dot_product n (as_row row)) result }
+{
+    if row.x.raw() == 0 && row.y.raw() == 0 {
+        None
+    } else {
+        Some(Cone::Ray(row))
+    }
+}
+
+fn opened(only: Flat, row: Flat) -> Option<Cone>
+    requires { IsCone (Cone.Ray only) }
+    ensures { Adds (Cone.Ray only) (λ n. pos 0 <ℤ dot_product n (as_row row)) result }
+{
+    let left = turn(only, row).raw();
+    if left > 0 {
+        Some(Cone::Wedge(only, row))
+    } else if left < 0 {
+        Some(Cone::Wedge(row, only))
+    } else if scalar(only, row).raw() > 0 {
+        Some(Cone::Ray(only))
+    } else {
+        None
+    }
+}
+
+fn widened(low: Flat, high: Flat, row: Flat) -> Option<Cone>
+    requires { IsCone (Cone.Wedge low high) }
+    ensures { Adds (Cone.Wedge low high) (λ n. pos 0 <ℤ dot_product n (as_row row)) result }
+{
+    let from_low = turn(low, row).raw();
+    let to_high = turn(row, high).raw();
+    if from_low > 0 {
+        if to_high < 0 {
+            Some(Cone::Wedge(low, row))
+        } else {
+            Some(Cone::Wedge(low, high))
+        }
+    } else if to_high > 0 {
+        if from_low < 0 {
+            Some(Cone::Wedge(row, high))
+        } else {
+            Some(Cone::Wedge(low, high))
+        }
+    } else {
+        None
+    }
+}
+
+/// The cone of one more row, or None where no plane serves that row too.
+pub fn narrowed(cone: Cone, row: Flat) -> Option<Cone>
+    requires { IsCone cone }
+    ensures { Adds cone (λ n. pos 0 <ℤ dot_product n (as_row row)) result }
+{
+    match cone {
+        Cone::Empty => ray(row),
+        Cone::Ray(only) => opened(only, row),
+        Cone::Wedge(low, high) => widened(low, high, row),
+    }
+}

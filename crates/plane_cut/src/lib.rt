@@ -1,0 +1,15 @@
+//! Whether one plane through the origin leaves a list of vectors strictly on one side, and whether two
+//! convex hulls meet. Both are decided by eliminating one variable after the other.
+#![tactic(auto)]
+
+mod cones;
+mod laws;
+mod meeting;
+mod planes;
+mod rows;
+#[cfg(test)]
+mod tests;
+
+pub use laws::{plane_excludes_weights, plane_or_weights, separated_or_meeting};
+pub use meeting::meets;
+pub use planes::{Tally, has_plane};

@@ -1,0 +1,133 @@
+//! The elimination of the first variable.
+ghost use Rattle.std.specs.Prelude.{IsTrue, is_some, ◌↔◌, ◌≡◌, ◌^◌, ◌+◌, ◌-◌, ◌≤◌, pos, ◌<ℤ◌, ◌-ℤ◌, ◌*ℤ◌, unsigned_abs, min, take, All};
+ghost use Rattle.space3.specs.Vectors.{AtMost, Within, vector};
+ghost use Rattle.plane_cut.specs.Planes.{HasPlane};
+ghost use Rattle.plane_cut.specs.Flat.{combined, flattened, ServesFlat, ServesPair, ServesPairs};
+ghost use Rattle.plane_cut.specs.Cones.{as_row, IsCone, Adds};
+
+use crate::cones::{Cone, narrowed};
+use crate::rows::Flat;
+use num_q::Q;
+use space3::V3;
+
+/// Counts plane decisions. A count that stands at its last value stays there.
+#[derive(Clone, Copy, PartialEq, Eq, Debug)]
+pub struct Tally {
+    pub n: u64,
+}
+
+fn times(a: i64, b: i64) -> Q<0, 59>
+    requires left { AtMost (2 ^ 29) a }
+    requires right { AtMost (2 ^ 29) b }
+    ensures value { result.raw ≡ a *ℤ b }
+    ensures bound { unsigned_abs result.raw ≤ 2 ^ 58 }
+{
+    Q::of_raw(a as i128 * b as i128)
+}
+
+/// The minor `a·d − b·c`.
+fn minor(a: i64, b: i64, c: i64, d: i64) -> Q<0, 60>
+    requires top_left { AtMost (2 ^ 29) a }
+    requires top_right { AtMost (2 ^ 29) b }
+    requires low_left { AtMost (2 ^ 29) c }
+    requires low_right { AtMost (2 ^ 29) d }
+    ensures value { result.raw ≡ a *ℤ d -ℤ b *ℤ c }
+    ensures bound { unsigned_abs result.raw ≤ 2 ^ 59 }
+{
+    times(a, d).sub_into(times(b, c))
+}
+
+/// The combination of a row above 0 and one below 0 in which the third component is 0.
+fn joined(p: V3, q: V3) -> Flat
+    requires above { Within (2 ^ 29) p }
+    requires below { Within (2 ^ 29) q }
+    ensures { as_row result ≡ combined p q }
+{
+    Flat {
+        x: minor(q.x, p.x, q.z, p.z),
+        y: minor(q.y, p.y, q.z, p.z),
+    }
+}
+
+fn flat(row: V3) -> Flat
+    requires { Within (2 ^ 29) row }
+    ensures { as_row result ≡ flattened row }
+{
+    Flat {
+        x: Q::of_raw(row.x as i128),
+        y: Q::of_raw(row.y as i128),
+    }
+}
+
+/// The cone of the rows whose third component is 0.
+fn with_flats(rows: &[V3; 16], count: usize) -> Option<Cone>
+    requires few { count ≤ 16 }
+    requires range { All (Within (2 ^ 29)) (take count rows.now) }
+    ensures { Adds Cone.Empty (λ n. All (ServesFlat n) (take count rows.now)) result }
+{
+    let mut cone = Cone::Empty;
+    for i in 0..count {
+        let row = rows[i];
+        if row.z == 0 {
+            cone = narrowed(cone, flat(row))?;
+        }
+    }
+    Some(cone)
+}
+
+/// The cone that also has the combinations of one row above 0.
+fn with_pairs(start: Cone, p: V3, rows: &[V3; 16], count: usize) -> Option<Cone>
+    requires start { IsCone start }
+    requires above { Within (2 ^ 29) p }
+    requires few { count ≤ 16 }
+    requires range { All (Within (2 ^ 29)) (take count rows.now) }
+    ensures { Adds start (λ n. All (ServesPair n p) (take count rows.now)) result }
+{
+    let mut cone = start;
+    for i in 0..count {
+        let q = rows[i];
+        if q.z < 0 {
+            cone = narrowed(cone, joined(p, q))?;
+        }
+    }
+    Some(cone)
+}
+
+/// The cone that also has the combinations of all rows above 0.
+fn with_all_pairs(start: Cone, rows: &[V3; 16], count: usize) -> Option<Cone>
+    requires start { IsCone start }
+    requires few { count ≤ 16 }
+    requires range { All (Within (2 ^ 29)) (take count rows.now) }
+    ensures { Adds start (λ n. All (ServesPairs n (take count rows.now)) (take count rows.now)) result }
+{
+    let mut cone = start;
+    for i in 0..count {
+        let p = rows[i];
+        if p.z > 0 {
+            cone = with_pairs(cone, p, rows, count)?;
+        }
+    }
+    Some(cone)
+}
+
+/// The cone of the rows without their third component, or None where the rows have no plane.
+pub fn cone_of(rows: &[V3; 16], count: usize) -> Option<Cone>
+    requires few { count ≤ 16 }
+    requires range { All (Within (2 ^ 29)) (take count rows.now) }
+    ensures { IsTrue (is_some result) ↔ HasPlane (take count rows.now) }
+{
+    let cone = with_flats(rows, count)?;
+    with_all_pairs(cone, rows, count)
+}
+
+/// Whether some whole vector has a positive product with each of the first `count` rows. Components
+/// of these are at most 2^29 in absolute value. The tally rises by one.
+pub fn has_plane(rows: &[V3; 16], count: u8, tally: &mut Tally) -> bool
+    requires few { count ≤ 16 }
+    requires range { All (Within (2 ^ 29)) (take count rows.now) }
+    ensures plane { IsTrue result ↔ HasPlane (take count rows.now) }
+    ensures tally { tally.new.n ≡ min (tally.old.n + 1) (2 ^ 64 - 1) }
+{
+    tally.n = tally.n.saturating_add(1);
+    cone_of(rows, count as usize).is_some()
+}
