@@ -1,0 +1,10 @@
+pub mod Adds
+pub mod Digits
+pub mod Fractions
+pub mod Grammar
+pub mod Kept
+pub mod Meaning
+pub mod Places
+pub mod Read
+pub mod ReadBack
+pub mod Splits

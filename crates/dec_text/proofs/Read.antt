@@ -1,0 +1,85 @@
+-- What a text that was cut into its parts is worth on the grid.
+use Rattle.std.proofs.Common.{◌≡◌, ℕ, ◌+◌, ◌-◌, ◌*◌, ◌^◌, ◌<◌, min, Bool, true, false, cond, leb, ltb, ◌&&◌, ◌||◌, not, List, [], ◌∷◌, ◌++◌, length, Err, IsTrue, true≢false, refl, sym, subst, arith, inl, inr}
+use Rattle.std.proofs.lemmas.Bool.{cases_lt, and_parts, leb-true}
+use Rattle.std.proofs.lemmas.Bool.Decides.{nat_tests}
+use Rattle.std.proofs.lemmas.Str.{digit_value_digit}
+use Rattle.std.specs.Char.{digit_value, is_ascii_digit}
+use Rattle.std.specs.List.{list_all, list_any}
+use Rattle.std.specs.Str.Parse.{AllDigits, digits_value, starts_with_minus, without_leading_sign}
+use Rattle.dec_text.specs.declared.cut.Cut.{Cut}
+use Rattle.dec_text.specs.declared.Snap.{Snap}
+use Rattle.dec_text.specs.declared.DecErr.TheVariants.{NotDecimal}
+use Rattle.dec_text.specs.Cut.{IsCut}
+use Rattle.dec_text.specs.Decimal.{is_mark, is_numeral, whole, fraction, exponent, is_decimal, is_negative, all_digits, exponent_size, tens_up, tens_down}
+use Rattle.dec_text.proofs.Digits.{ten_pos}
+use Rattle.dec_text.specs.Grid.{numerator, denominator, in_box, snapped, grid_value}
+
+-- ---- a numeral's bytes are digits
+pub AllDigits-list_all : (ds : List ℕ) → list_all is_ascii_digit ds ≡ true → AllDigits 10 ds
+AllDigits-list_all [] h = tt
+AllDigits-list_all (c ∷ cs) h =
+    let parts = and_parts (is_ascii_digit c) (list_all is_ascii_digit cs) h in
+    (below c parts.0, AllDigits-list_all cs parts.1)
+  where
+    below : (c : ℕ) → is_ascii_digit c ≡ true → digit_value c < 10
+    below c t =
+        let range = and_parts (leb 48 c) (leb c 57) t in
+        omega (arith, digit_value_digit c (leb-true 48 c range.0, leb-true c 57 range.1), leb-true c 57 range.1)
+
+pub AllDigits-is_numeral : (ds : List ℕ) → is_numeral ds ≡ true → AllDigits 10 ds
+AllDigits-is_numeral ds h = AllDigits-list_all ds (and_parts (ltb 0 (length ds)) (list_all is_ascii_digit ds) h).1
+
+pub AllDigits-both : (xs ys : List ℕ) → AllDigits 10 (xs ++ ys) → AllDigits 10 xs × AllDigits 10 ys
+AllDigits-both [] ys h = (tt, h)
+AllDigits-both (x ∷ xs) ys h = let both = AllDigits-both xs ys h.1 in ((h.0, both.0), both.1)
+
+-- ---- the box
+pub in_box-min : (negative : Bool) (n : ℕ) → in_box negative (min n (2 ^ 64 - 1)) ≡ in_box negative n
+in_box-min negative n = elim (cases_lt n (2 ^ 64 - 1)) [
+  | inl low ↦ let e : min n (2 ^ 64 - 1) ≡ n = omega arith in rw e refl
+  | inr high ↦
+      let e : min n (2 ^ 64 - 1) ≡ 2 ^ 64 - 1 = omega arith in
+      let t : leb n (2 ^ 20) ≡ false = grind (arith, nat_tests) in
+      rw (e, t) refl
+]
+
+-- ---- the value on the grid
+pub grid_value-refused : (text : List ℕ) (digits : ℕ) (snap : Snap) → is_decimal text ≡ false → Err NotDecimal ≡ grid_value text digits snap
+unfolding grid_value
+grid_value-refused text digits snap h = rw h refl
+
+pub grid_value-read : (text : List ℕ) (digits : ℕ) (snap : Snap) → is_decimal text ≡ true → grid_value text digits snap ≡ snapped (is_negative text) (numerator text digits) (denominator text) snap
+unfolding grid_value
+grid_value-read text digits snap h = rw h refl
+
+pub is_decimal-is : (text : List ℕ) → is_decimal text ≡ (is_numeral (whole text ++ fraction text) && (not (list_any is_mark text) || is_numeral (without_leading_sign (exponent text))))
+unfolding is_decimal
+is_decimal-is text = refl
+
+pub value_cut : (text : List ℕ) (digits : ℕ) (w f : List ℕ) (down : Bool) (c : Cut) → w ≡ whole text → f ≡ fraction text → down ≡ starts_with_minus (exponent text)
+    → IsCut (digits_value 10 (w ++ f) * 10 ^ (digits + cond down 0 (exponent_size text))) (10 ^ (length f + cond down (exponent_size text) 0)) c
+    → IsCut (numerator text digits) (denominator text) c
+unfolding numerator denominator tens_up tens_down all_digits
+value_cut text digits w f down c p q r h =
+    subst (λ d. IsCut (numerator text digits) d c) (λ i. 10 ^ (length (q i) + cond (r i) (exponent_size text) 0))
+    (subst (λ n. IsCut n (10 ^ (length f + cond down (exponent_size text) 0)) c)
+    (λ i. digits_value 10 (p i ++ q i) * 10 ^ (digits + cond (r i) 0 (exponent_size text))) h)
+
+-- ---- the parts of a decimal are digits
+pub decimal_digits : (w f x : List ℕ) (has : Bool) → (is_numeral (w ++ f) && (not has || is_numeral (without_leading_sign x))) ≡ true → (¬ (IsTrue has) → x ≡ []) → AllDigits 10 w × AllDigits 10 f × AllDigits 10 (without_leading_sign x)
+decimal_digits w f x has h none =
+    let parts = and_parts (is_numeral (w ++ f)) (not has || is_numeral (without_leading_sign x)) h in
+    let both = AllDigits-both w f (AllDigits-is_numeral (w ++ f) parts.0) in
+    (both.0, both.1, power has parts.1 none)
+  where
+    power : (has : Bool) → (not has || is_numeral (without_leading_sign x)) ≡ true → (¬ (IsTrue has) → x ≡ []) → AllDigits 10 (without_leading_sign x)
+    power true h none = AllDigits-is_numeral (without_leading_sign x) h
+    power false h none = subst (λ y. AllDigits 10 (without_leading_sign y)) (sym (none (λ t. absurd (true≢false (sym t))))) tt
+
+pub denominator_pos : (text : List ℕ) → 0 < denominator text
+unfolding denominator
+denominator_pos text = ten_pos (tens_down text)
+
+pub exponent_size-is : (text : List ℕ) → exponent_size text ≡ digits_value 10 (without_leading_sign (exponent text))
+unfolding exponent_size
+exponent_size-is text = refl
