@@ -1,0 +1,4 @@
+pub mod Bits
+pub mod Monotone
+pub mod Power
+pub mod Whole

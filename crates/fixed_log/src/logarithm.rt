@@ -1,0 +1,91 @@
+//! The logarithm.
+ghost use Rattle.std.specs.Prelude.{◌≡◌, ◌+◌, ◌-◌, ◌*◌, ◌/◌, ◌^◌, ◌<◌, ◌≤◌, pos, unsigned_abs};
+ghost use Rattle.fixed_log.specs.Logarithm.{lg_bits, whole_lg, mantissa, lg_of, ln_ratio_of};
+
+use num_q::Q;
+
+/// The square of `y` / 2^61, rounded down.
+fn square(y: u64) -> u64
+    requires { y < 2 ^ 62 }
+    ensures value { result ≡ y * y / 2 ^ 61 }
+    ensures below { result < 2 ^ 63 }
+{
+    let y: Q<61, 62> = Q::of_raw(y as i128);
+    let square: Q<122, 124> = y.mul_into(y);
+    let rounded: Q<61, 124> = square.rescale_into();
+    rounded.raw as u64
+}
+
+/// The 24 bits behind the point.
+fn bits_of(mantissa: u64) -> u64
+    requires { mantissa < 2 ^ 62 }
+    ensures value { result ≡ lg_bits 24 mantissa }
+    ensures below { result < 2 ^ 24 }
+{
+    let mut y = mantissa;
+    let mut bits = 0u64;
+    for turn in 0..24u32 {
+        let z = square(y);
+        if (1 << 62) <= z {
+            bits += 1u64 << (23 - turn);
+            y = z / 2;
+        } else {
+            y = z;
+        }
+    }
+    bits
+}
+
+fn whole_of(m: u128) -> u32
+    requires low { 1 ≤ m }
+    requires high { m < 2 ^ 68 }
+    ensures value { result ≡ whole_lg m }
+    ensures power { 2 ^ result ≤ m }
+    ensures next { m < 2 ^ (result + 1) }
+    ensures small { result < 68 }
+{
+    127 - m.leading_zeros()
+}
+
+fn mantissa_of(m: u128, whole: u32) -> u64
+    requires power { 2 ^ whole ≤ m }
+    requires next { m < 2 ^ (whole + 1) }
+    requires small { whole < 68 }
+    ensures value { result ≡ mantissa m whole }
+    ensures below { result < 2 ^ 62 }
+{
+    if whole <= 61 {
+        (m as u64) << (61 - whole)
+    } else {
+        (m >> (whole - 61)) as u64
+    }
+}
+
+/// The logarithm of `m` to base 2, with 24 bits behind the point, for `m` from 1 below 2^68.
+///
+/// With 2^k ≤ `m` < 2^(k+1), it begins with k and `m` / 2^k. For each bit that number is squared and rounded down to
+/// 61 bits behind the point; where it is 2 or more, the bit counts and the number is halved.
+pub fn lg(m: u128) -> i64
+    requires low { 1 ≤ m }
+    requires high { m < 2 ^ 68 }
+    ensures value { result ≡ pos (lg_of m) }
+    ensures small { lg_of m < 68 * 2 ^ 24 }
+{
+    let whole = whole_of(m);
+    let bits = bits_of(mantissa_of(m, whole));
+    (whole as u64 * (1 << 24) + bits) as i64
+}
+
+/// The natural logarithm of `a` / `b`, with 24 bits behind the point, for both from 1 below 2^68: the difference of
+/// their logarithms to base 2 times 2977044471 / 2^32, rounded down.
+#[tactic(auto, unfolding(crate::specs::Logarithm::ln_ratio_of))]
+pub fn ln_ratio(a: u128, b: u128) -> i64
+    requires a_low { 1 ≤ a }
+    requires a_high { a < 2 ^ 68 }
+    requires b_low { 1 ≤ b }
+    requires b_high { b < 2 ^ 68 }
+    ensures value { result ≡ ln_ratio_of a b }
+    ensures small { unsigned_abs result < 2 ^ 30 }
+{
+    ((lg(a) - lg(b)) * 2977044471) >> 32
+}
