@@ -12,13 +12,13 @@ use Rattle.safe_motion.specs.Certificates.{volume_at}
 use Rattle.safe_motion.specs.Safety.{Parts, SafeMotion, SafePlaces, node_move, node_moves, corners}
 use Rattle.safe_motion.proofs.Standing.{meeting_along, still_meeting, still_volume_sign}
 
-place-start : (m : Move) → place_at 0 1 m ≡ m.start
+pub place-start : (m : Move) → place_at 0 1 m ≡ m.start
 place-start m = λ i. vector (each m.start.x m.end.x i) (each m.start.y m.end.y i) (each m.start.z m.end.z i)
   where
     each : (a b : ℤ) → pos 1 *ℤ a +ℤ pos 0 *ℤ b ≡ a
     each a b = ring (a ∷ b ∷ []) (num (pos 1) ⊗ v 0 ⊕ num (pos 0) ⊗ v 1) (v 0) tt
 
-place-end : (m : Move) → place_at 1 1 m ≡ m.end
+pub place-end : (m : Move) → place_at 1 1 m ≡ m.end
 place-end m = λ i. vector (each m.start.x m.end.x i) (each m.start.y m.end.y i) (each m.start.z m.end.z i)
   where
     each : (a b : ℤ) → pos 0 *ℤ a +ℤ pos 1 *ℤ b ≡ b

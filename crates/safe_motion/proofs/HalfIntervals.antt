@@ -53,13 +53,13 @@ edge-middle a b j n = λ i. vector (each a.start.x b.start.x a.end.x b.end.x i) 
         (((q ⊖ p) ⊗ v 2 ⊕ p ⊗ v 4) ⊖ ((q ⊖ p) ⊗ v 3 ⊕ p ⊗ v 5))
         ((((v 1 ⊖ v 0) ⊗ v 2 ⊕ v 0 ⊗ v 4) ⊖ ((v 1 ⊖ v 0) ⊗ v 3 ⊕ v 0 ⊗ v 5)) ⊕ (((v 1 ⊖ next) ⊗ v 2 ⊕ next ⊗ v 4) ⊖ ((v 1 ⊖ next) ⊗ v 3 ⊕ next ⊗ v 5))) tt
 
-edges-double : (t : Corners) (j n : ℕ) → edges_at (2 * j) (2 * n) t ≡ scaled_edges (pos 2) (edges_at j n t)
+pub edges-double : (t : Corners) (j n : ℕ) → edges_at (2 * j) (2 * n) t ≡ scaled_edges (pos 2) (edges_at j n t)
 edges-double t j n = λ i. record { u = edge-double t.second t.first j n i; v = edge-double t.third t.first j n i; w = edge-double t.fourth t.first j n i }
 
-edges-middle : (t : Corners) (j n : ℕ) → edges_at (2 * j + 1) (2 * n) t ≡ sum_of_edges (edges_at j n t) (edges_at (j + 1) n t)
+pub edges-middle : (t : Corners) (j n : ℕ) → edges_at (2 * j + 1) (2 * n) t ≡ sum_of_edges (edges_at j n t) (edges_at (j + 1) n t)
 edges-middle t j n = λ i. record { u = edge-middle t.second t.first j n i; v = edge-middle t.third t.first j n i; w = edge-middle t.fourth t.first j n i }
 
-edges-end : (t : Corners) (j n : ℕ) → edges_at (2 * j + 1 + 1) (2 * n) t ≡ scaled_edges (pos 2) (edges_at (j + 1) n t)
+pub edges-end : (t : Corners) (j n : ℕ) → edges_at (2 * j + 1 + 1) (2 * n) t ≡ scaled_edges (pos 2) (edges_at (j + 1) n t)
 edges-end t j n = subst (λ (k : ℕ). edges_at k (2 * n) t ≡ scaled_edges (pos 2) (edges_at (j + 1) n t)) (next j) (edges-double t (j + 1) n)
   where
     next : (j : ℕ) → 2 * (j + 1) ≡ 2 * j + 1 + 1

@@ -37,7 +37,8 @@ halves_from_everywhere P (suc depth) j n h =
       halves_from_everywhere P depth (2 * j + 1) (2 * n) (λ i l. moved P _ _ _ _ (second_place t i j) (scaled t j n) (twice h (t + i) (omega arith))),
     )
 
-whole : (P : ℕ → ℕ → Type 0) (depth j n : ℕ) → P j n → ByHalves P depth j n
+-- what the whole interval has holds by halves
+pub whole : (P : ℕ → ℕ → Type 0) (depth j n : ℕ) → P j n → ByHalves P depth j n
 whole P zero j n h = h
 whole P (suc depth) j n h = inl h
 

@@ -1,21 +1,15 @@
 -- Numbers of the plain program, and searches of a list that stop.
-use Rattle.std.proofs.Common.{◌≡◌, ℕ, ◌+◌, ◌-◌, ◌*◌, ◌^◌, ◌<◌, ◌≤◌, ℤ, pos, ◌+ℤ◌, ◌-ℤ◌, ◌*ℤ◌, ◌<ℤ◌, unsigned_abs, Bool, true, false, T, List, [], ◌∷◌, map, take, length, get_or, refl, sym, ap, subst, arith, lit<, le_refl, w64, to_z, of_z}
-use Rattle.std.proofs.lemmas.Int.{ints, to_z_pos, to_z-of_z}
+use Rattle.std.proofs.Common.{◌≡◌, ℕ, ◌+◌, ◌^◌, ◌<◌, ◌≤◌, ℤ, pos, ◌+ℤ◌, ◌-ℤ◌, ◌*ℤ◌, ◌<ℤ◌, Bool, true, false, T, List, map, take, length, get_or, refl, sym, subst, arith, to_z, of_z}
+use Rattle.std.proofs.lemmas.Int.{to_z-of_z}
 use mir.Val.{SFits}
 use Rattle.std.specs.Int.{w128}
 use Rattle.std.specs.Prelude.{All, IsTrue, int_lt, ◌↔◌}
 use Rattle.space3.specs.declared.vectors.V3.{V3}
-use Rattle.space3.specs.Vectors.{AtMost, Within, determinant, difference, multiple, origin, sum_of}
-use Rattle.safe_motion.specs.Meeting.{weighted_sum}
+use Rattle.space3.specs.Vectors.{AtMost, Within, determinant, difference}
 use Rattle.std.proofs.lemmas.List.{take_all}
 use Rattle.std.proofs.lemmas.List.Elements.{All-map, All-more, All-same}
 use Rattle.whole_laws.proofs.Lists.{All-map_back}
-use Rattle.whole_laws.proofs.Order.{size_prod, size_back, size_diff, size_sum, clean}
-
-pub product_size : (k : ℕ) (a : ℤ) → k < 2 ^ 16 → unsigned_abs a ≤ 2 ^ 20 → unsigned_abs (to_z w64 (of_z w64 (to_z w64 k *ℤ to_z w64 (of_z w64 a)))) ≤ k * 2 ^ 20
-product_size k a h l =
-    rw (clean w64 a (2 ^ 20) l (lit< tt), to_z_pos w64 k (omega arith))
-    (size_back w64 (pos k *ℤ a) (k * 2 ^ 20) (k * 2 ^ 20) (size_prod (pos k) a k (2 ^ 20) (le_refl k) l) (omega arith) (le_refl (k * 2 ^ 20)))
+use Rattle.whole_laws.proofs.Order.{size_prod, size_diff, size_sum}
 
 -- the difference of two places
 pub within-difference : (a b : V3) → Within (2 ^ 28) a → Within (2 ^ 28) b → Within (2 ^ 29) (difference a b)
@@ -23,12 +17,6 @@ within-difference a b h k = record { x = each a.x b.x h.x k.x; y = each a.y b.y 
   where
     each : (a b : ℤ) → AtMost (2 ^ 28) a → AtMost (2 ^ 28) b → AtMost (2 ^ 29) (a -ℤ b)
     each a b h k = record { bound = omega (arith, size_diff a b, h.bound, k.bound) }
-
-pub within-sum : (m n b : ℕ) (a d : V3) → Within m a → Within n d → m + n ≤ b → Within b (sum_of a d)
-within-sum m n b a d h k l = record { x = each a.x d.x h.x k.x; y = each a.y d.y h.y k.y; z = each a.z d.z h.z k.z }
-  where
-    each : (a d : ℤ) → AtMost m a → AtMost n d → AtMost b (a +ℤ d)
-    each a d h k = record { bound = omega (arith, size_sum a d, h.bound, k.bound) }
 
 pub within_more : (m n : ℕ) (a : V3) → Within m a → m ≤ n → Within n a
 within_more m n a h l = record { x = each a.x h.x; y = each a.y h.y; z = each a.z h.z }
@@ -45,18 +33,6 @@ positive_test r d h e =
     true_from : (b : Bool) → T b → b ≡ true
     true_from true t = refl
     true_from false t = absurd t
-
-pub multiple-less : (p q : ℕ) (a : V3) → p ≤ q → multiple (pos (q - p)) a ≡ multiple (pos q -ℤ pos p) a
-multiple-less p q a h = ap (λ (k : ℤ). multiple k a) (less p q h)
-  where
-    less : (p q : ℕ) → p ≤ q → pos (q - p) ≡ pos q -ℤ pos p
-    less p q h = omega (arith, ints)
-
--- no points add up to the origin
-pub weighted_sum-nil : (ws : List ℕ) (xs : List V3) → length xs < 1 → origin ≡ weighted_sum ws xs
-weighted_sum-nil [] xs h = refl
-weighted_sum-nil (w ∷ ws) [] h = refl
-weighted_sum-nil (w ∷ ws) (x ∷ xs) h = absurd (omega arith)
 
 -- ---- a search of a list by a test
 -- it stops at an element that fails

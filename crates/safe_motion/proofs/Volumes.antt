@@ -13,10 +13,10 @@ use Rattle.safe_motion.proofs.VectorForms.{components, Triple, at, ◌⊕₃◌,
 use Rattle.safe_motion.proofs.Inside.{shares, early_share, late_share, blend, blend-between}
 
 -- the middle Bernstein numbers of the edges s and t
-abbrev second_number : Edges → Edges → ℤ
+abbrev pub second_number : Edges → Edges → ℤ
 second_number s t = determinant t.u s.v s.w +ℤ determinant s.u t.v s.w +ℤ determinant s.u s.v t.w
 
-abbrev third_number : Edges → Edges → ℤ
+abbrev pub third_number : Edges → Edges → ℤ
 third_number s t = determinant t.u t.v s.w +ℤ determinant t.u s.v t.w +ℤ determinant s.u t.v t.w
 
 -- k times the edges s, and l times the edges t, together
@@ -116,7 +116,7 @@ abbrev middle' : Three
 middle' = (s'.0 ⊕₃ t'.0, s'.1 ⊕₃ t'.1, s'.2 ⊕₃ t'.2)
 
 -- k, l, m and n times the Bernstein numbers
-abbrev weighted : ℕ → ℕ → ℕ → ℕ → Edges → Edges → ℤ
+abbrev pub weighted : ℕ → ℕ → ℕ → ℕ → Edges → Edges → ℤ
 weighted k l m n s t = pos k *ℤ volume_of s +ℤ pos l *ℤ second_number s t +ℤ pos m *ℤ third_number s t +ℤ pos n *ℤ volume_of t
 
 abbrev weighted' : ℕ → ℕ → ℕ → ℕ → Expr
@@ -139,31 +139,48 @@ weighted_pos k l m n s t b h = positive k l m n _ _ _ _ b.first b.second b.third
         above : (k l m n : ℕ) (a b c d : ℤ) → pos k ≤ℤ a → pos l ≤ℤ b → pos m ≤ℤ c → pos n ≤ℤ d → 0 < k + l + m + n → pos 0 <ℤ (a +ℤ b +ℤ c +ℤ d)
         above k l m n a b c d ha hb hc hd h = omega (arith, ints)
 
--- the Bernstein numbers of the first half are sums of those of the whole
+-- the Bernstein numbers of the first half, where the edges are taken twice, are sums of those of the whole
+pub first_half_numbers : (s t : Edges) → (volume_of (scaled_edges (pos 2) s) ≡ weighted 8 0 0 0 s t)
+    × (second_number (scaled_edges (pos 2) s) (sum_of_edges s t) ≡ weighted 12 4 0 0 s t)
+    × (third_number (scaled_edges (pos 2) s) (sum_of_edges s t) ≡ weighted 6 4 2 0 s t)
+    × (volume_of (sum_of_edges s t) ≡ weighted 1 1 1 1 s t)
+first_half_numbers s t =
+    let xs = edge_variables s t in (
+      ring xs (volume' (double' s')) (weighted' 8 0 0 0) tt,
+      ring xs (second' (double' s') middle') (weighted' 12 4 0 0) tt,
+      ring xs (third' (double' s') middle') (weighted' 6 4 2 0) tt,
+      ring xs (volume' middle') (weighted' 1 1 1 1) tt,
+    )
+
+-- and of the second half
+pub second_half_numbers : (s t : Edges) → (volume_of (sum_of_edges s t) ≡ weighted 1 1 1 1 s t)
+    × (second_number (sum_of_edges s t) (scaled_edges (pos 2) t) ≡ weighted 0 2 4 6 s t)
+    × (third_number (sum_of_edges s t) (scaled_edges (pos 2) t) ≡ weighted 0 0 4 12 s t)
+    × (volume_of (scaled_edges (pos 2) t) ≡ weighted 0 0 0 8 s t)
+second_half_numbers s t =
+    let xs = edge_variables s t in (
+      ring xs (volume' middle') (weighted' 1 1 1 1) tt,
+      ring xs (second' middle' (double' t')) (weighted' 0 2 4 6) tt,
+      ring xs (third' middle' (double' t')) (weighted' 0 0 4 12) tt,
+      ring xs (volume' (double' t')) (weighted' 0 0 0 8) tt,
+    )
+
 pub first_half : (s t : Edges) → ArePositive s t → ArePositive (scaled_edges (pos 2) s) (sum_of_edges s t)
 first_half s t b =
-    let xs = edge_variables s t in
-    let first : volume_of (scaled_edges (pos 2) s) ≡ weighted 8 0 0 0 s t = ring xs (volume' (double' s')) (weighted' 8 0 0 0) tt in
-    let second : second_number (scaled_edges (pos 2) s) (sum_of_edges s t) ≡ weighted 12 4 0 0 s t = ring xs (second' (double' s') middle') (weighted' 12 4 0 0) tt in
-    let third : third_number (scaled_edges (pos 2) s) (sum_of_edges s t) ≡ weighted 6 4 2 0 s t = ring xs (third' (double' s') middle') (weighted' 6 4 2 0) tt in
-    let fourth : volume_of (sum_of_edges s t) ≡ weighted 1 1 1 1 s t = ring xs (volume' middle') (weighted' 1 1 1 1) tt in
+    let sums = first_half_numbers s t in
     record {
-      first = rw first (weighted_pos 8 0 0 0 s t b (omega arith));
-      second = rw second (weighted_pos 12 4 0 0 s t b (omega arith));
-      third = rw third (weighted_pos 6 4 2 0 s t b (omega arith));
-      fourth = rw fourth (weighted_pos 1 1 1 1 s t b (omega arith));
+      first = rw sums.0 (weighted_pos 8 0 0 0 s t b (omega arith));
+      second = rw sums.1 (weighted_pos 12 4 0 0 s t b (omega arith));
+      third = rw sums.2 (weighted_pos 6 4 2 0 s t b (omega arith));
+      fourth = rw sums.3 (weighted_pos 1 1 1 1 s t b (omega arith));
     }
 
 pub second_half : (s t : Edges) → ArePositive s t → ArePositive (sum_of_edges s t) (scaled_edges (pos 2) t)
 second_half s t b =
-    let xs = edge_variables s t in
-    let first : volume_of (sum_of_edges s t) ≡ weighted 1 1 1 1 s t = ring xs (volume' middle') (weighted' 1 1 1 1) tt in
-    let second : second_number (sum_of_edges s t) (scaled_edges (pos 2) t) ≡ weighted 0 2 4 6 s t = ring xs (second' middle' (double' t')) (weighted' 0 2 4 6) tt in
-    let third : third_number (sum_of_edges s t) (scaled_edges (pos 2) t) ≡ weighted 0 0 4 12 s t = ring xs (third' middle' (double' t')) (weighted' 0 0 4 12) tt in
-    let fourth : volume_of (scaled_edges (pos 2) t) ≡ weighted 0 0 0 8 s t = ring xs (volume' (double' t')) (weighted' 0 0 0 8) tt in
+    let sums = second_half_numbers s t in
     record {
-      first = rw first (weighted_pos 1 1 1 1 s t b (omega arith));
-      second = rw second (weighted_pos 0 2 4 6 s t b (omega arith));
-      third = rw third (weighted_pos 0 0 4 12 s t b (omega arith));
-      fourth = rw fourth (weighted_pos 0 0 0 8 s t b (omega arith));
+      first = rw sums.0 (weighted_pos 1 1 1 1 s t b (omega arith));
+      second = rw sums.1 (weighted_pos 0 2 4 6 s t b (omega arith));
+      third = rw sums.2 (weighted_pos 0 0 4 12 s t b (omega arith));
+      fourth = rw sums.3 (weighted_pos 0 0 0 8 s t b (omega arith));
     }

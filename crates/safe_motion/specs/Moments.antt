@@ -1,7 +1,7 @@
 -- Where moving points are between the start and the end of a step.
-use Rattle.std.specs.Prelude.{◌≡◌, ℕ, ◌+◌, ◌*◌, ◌<◌, ◌≤◌, pos, ◌-ℤ◌, List, map}
+use Rattle.std.specs.Prelude.{◌≡◌, ℕ, ◌+◌, ◌*◌, ◌<◌, ◌≤◌, List, map}
 use Rattle.space3.specs.declared.vectors.V3.{V3}
-use Rattle.space3.specs.Vectors.{sum_of, multiple}
+use Rattle.space3.specs.Vectors.{between}
 use Rattle.safe_motion.specs.declared.motion.Move.{Move}
 
 -- p / q is a fraction from 0 to 1
@@ -17,7 +17,7 @@ pub record IsInside (p q j n : ℕ) : Type 0 where
 
 -- the place at p / q of a straight step, times q
 abbrev pub place_at : ℕ → ℕ → Move → V3
-place_at p q move = sum_of (multiple (pos q -ℤ pos p) move.start) (multiple (pos p) move.end)
+place_at p q move = between p q move.start move.end
 
 abbrev pub places_at : ℕ → ℕ → List Move → List V3
 places_at p q moves = map (place_at p q) moves

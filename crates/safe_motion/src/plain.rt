@@ -8,31 +8,9 @@ ghost use Rattle.safe_motion.specs.Moments.{place_at, places_at};
 ghost use Rattle.safe_motion.specs.Plain.{AreNear, AreShort, IsNear, IsSmall};
 
 use crate::motion::{Corners, Edges, Move};
-use space3::{V3, det, sub};
+use space3::{V3, det, dot, sub};
 
 const ORIGIN: V3 = V3 { x: 0, y: 0, z: 0 };
-
-fn times(a: i64, b: i64) -> i128
-    ensures { result ≡ a *ℤ b }
-{
-    a as i128 * b as i128
-}
-
-fn plus(a: i128, b: i128) -> i128
-    requires left { AtMost (2 ^ 125) a }
-    requires right { AtMost (2 ^ 125) b }
-    ensures { result ≡ a +ℤ b }
-{
-    a + b
-}
-
-fn dot(a: V3, b: V3) -> i128
-    requires left { Within (2 ^ 30) a }
-    requires right { Within (2 ^ 30) b }
-    ensures { result ≡ dot_product a b }
-{
-    plus(plus(times(a.x, b.x), times(a.y, b.y)), times(a.z, b.z))
-}
 
 // k times a.
 fn product(k: u16, a: i64) -> i64

@@ -17,6 +17,10 @@ difference a b = vector (a.x -ℤ b.x) (a.y -ℤ b.y) (a.z -ℤ b.z)
 abbrev pub multiple : ℤ → V3 → V3
 multiple k a = vector (k *ℤ a.x) (k *ℤ a.y) (k *ℤ a.z)
 
+-- the place at p / q of the straight way from a to b, times q
+abbrev pub between : ℕ → ℕ → V3 → V3 → V3
+between p q a b = sum_of (multiple (pos q -ℤ pos p) a) (multiple (pos p) b)
+
 abbrev pub dot_product : V3 → V3 → ℤ
 dot_product a b = a.x *ℤ b.x +ℤ a.y *ℤ b.y +ℤ a.z *ℤ b.z
 

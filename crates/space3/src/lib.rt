@@ -8,12 +8,14 @@ mod mesh;
 mod places;
 mod spots;
 mod vectors;
+mod ways;
 
 pub use lists::{NodeNumbers, Tags, Tet, TetList};
-pub use mesh::{Mesh, rest_det};
+pub use mesh::{Mesh, edge, rest_det};
 pub use places::{BOX_LIMIT, Places};
-pub use spots::Spot;
-pub use vectors::{V3, det, sub};
+pub use spots::{Part, Spot};
+pub use vectors::{V3, W3, cross, det, dot, dot_wide, sub};
+pub use ways::{at_scale, halved};
 
 #[cfg(test)]
 mod tests;

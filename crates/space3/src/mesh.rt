@@ -1,7 +1,7 @@
 //! A mesh of tetrahedra.
 ghost use Rattle.std.specs.Prelude.{◌≡◌, ◌<◌, ◌^◌, length};
 ghost use Rattle.space3.specs.Mesh.{rest_determinant, place_of, HasNodes};
-ghost use Rattle.space3.specs.Vectors.{Within, difference};
+ghost use Rattle.space3.specs.Vectors.{AtMost, Within, difference};
 
 use crate::lists::{NodeNumbers, Tet, TetList};
 use crate::places::Places;
@@ -15,21 +15,22 @@ pub struct Mesh {
     pub tets: TetList,
 }
 
-// The edge between two nodes.
-fn edge(places: &Places, from: u32, to: u32) -> V3
+/// The edge from one node to another, in grid units. Components are at most 2^21 in absolute value.
+pub fn edge(places: &Places, from: u32, to: u32) -> V3
     requires from { from < length places.now }
     requires to { to < length places.now }
     ensures value { result ≡ difference (place_of places.now to) (place_of places.now from) }
-    ensures bound { Within (2 ^ 30) result }
+    ensures bound { Within (2 ^ 21) result }
 {
     sub(places.get(to), places.get(from))
 }
 
 /// The determinant of a tetrahedron's three edges from its first node, which is six times its signed volume,
-/// in cubed grid units.
+/// in cubed grid units, at most 2^66 in absolute value.
 pub fn rest_det(places: &Places, tet: &Tet) -> i128
     requires { HasNodes places.now tet.now.nodes }
-    ensures { result ≡ rest_determinant places.now tet.now.nodes }
+    ensures value { result ≡ rest_determinant places.now tet.now.nodes }
+    ensures bound { AtMost (2 ^ 66) result }
 {
     let first = tet.nodes[0];
     let u = edge(places, first, tet.nodes[1]);

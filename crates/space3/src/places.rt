@@ -1,9 +1,11 @@
 //! Places in the box.
-ghost use Rattle.std.specs.Prelude.{◌≡◌, ◌^◌, ◌≤◌, ◌<◌, ◌↔◌, IfOk, IfSome, IsSome, MatchOption, length, slice_get, Some, List, All, IsTrue};
-ghost use Rattle.space3.specs.Vectors.{AtMost};
+ghost use Rattle.std.specs.Prelude.{◌≡◌, ◌-◌, ◌^◌, ◌≤◌, ◌<◌, ◌↔◌, IfOk, IfSome, IsSome, MatchOption, length, slice_get, Some, List, All, IsTrue};
+ghost use Rattle.space3.specs.Vectors.{AtMost, Within, sum_of};
 ghost use Rattle.space3.specs.Box.{IsInTheBox};
+ghost use Rattle.space3.specs.Moved.{halved, moved_by};
 
 use crate::vectors::V3;
+use crate::ways::{added, halved};
 use std::alloc::{AllocError, Global};
 use std::marker::Model;
 
@@ -46,6 +48,31 @@ fn are_in_box(list: &[V3]) -> bool
     list.iter().all(|place| is_in_box(*place))
 }
 
+// The place after a move along the direction, which is halved so many times.
+fn moved_place(place: V3, dir: V3, half: u8) -> V3
+    requires place { IsInTheBox place }
+    requires direction { Within (2 ^ 21 - 1) dir }
+    requires half { half ≤ 20 }
+    ensures { result ≡ sum_of place (halved half dir) }
+{
+    added(place, halved(dir, half))
+}
+
+// The places after a move along the directions, which are halved so many times.
+fn moved_places(alloc: Global, places: &[V3], dir: &[V3], half: u8) -> Result<Vec<V3>, AllocError>
+    requires as_many { length dir.now ≡ length places.now }
+    requires places { All IsInTheBox places.now }
+    requires directions { All (Within (2 ^ 21 - 1)) dir.now }
+    requires half { half ≤ 20 }
+    ensures { IfOk result (λ made. made.items ≡ moved_by places.now dir.now half) }
+{
+    let mut made = Vec::with_capacity(alloc, places.len())?;
+    for (i, place) in places.iter().enumerate() {
+        made.push(moved_place(*place, dir[i], half))?;
+    }
+    Ok(made)
+}
+
 impl Places {
     /// How many places there are.
     pub fn len(&self) -> u32
@@ -74,5 +101,38 @@ impl Places {
         }
         let list = Vec::from_slice(alloc, list)?;
         Ok(Some(Places { list }))
+    }
+
+    /// The places, in order.
+    pub fn items(&self) -> &[V3]
+        ensures { result.now ≡ self.now }
+    {
+        self.list.as_slice()
+    }
+
+    /// The same places in a list of their own.
+    pub fn copy(&self, alloc: Global) -> Result<Self, AllocError>
+        ensures { IfOk result (λ p. p ≡ self.now) }
+    {
+        let list = Vec::from_slice(alloc, &self.list)?;
+        Ok(Places { list })
+    }
+
+    /// These places after a move along their directions, which are divided by 2 so many times, at most 20, and cut
+    /// towards zero; None exactly where a component leaves the box. There is one direction for each place, in grid
+    /// units, with components below 2^21 in absolute value. It asks for memory once.
+    pub fn moved(&self, alloc: Global, dir: &[V3], half: u8) -> Result<Option<Self>, AllocError>
+        requires as_many { length dir.now ≡ length self.now }
+        requires directions { All (Within (2 ^ 21 - 1)) dir.now }
+        requires half { half ≤ 20 }
+        ensures places { IfOk result (λ made. IfSome made (λ p. p ≡ moved_by self.now dir.now half)) }
+        ensures in_box { IfOk result (λ made. IsSome made ↔ All IsInTheBox (moved_by self.now dir.now half)) }
+    {
+        let list = moved_places(alloc, &self.list, dir, half)?;
+        if are_in_box(&list) {
+            Ok(Some(Places { list }))
+        } else {
+            Ok(None)
+        }
     }
 }

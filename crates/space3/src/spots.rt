@@ -1,5 +1,5 @@
 //! Up to four points, as the corners of a part.
-ghost use Rattle.std.specs.Prelude.{◌≤◌};
+ghost use Rattle.std.specs.Prelude.{◌≡◌, ◌≤◌};
 
 use crate::vectors::V3;
 
@@ -10,4 +10,12 @@ pub struct Spot {
     pub at: [V3; 4],
     pub ghost some: { 1 ≤ count },
     pub ghost few: { count ≤ 4 },
+}
+
+/// A part that moves: its corners at the start and at the end, in the same order.
+#[derive(Clone, Copy, PartialEq, Eq, Debug)]
+pub struct Part {
+    pub start: Spot,
+    pub end: Spot,
+    pub ghost as_many: { start.count ≡ end.count },
 }

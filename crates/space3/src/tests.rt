@@ -55,3 +55,46 @@ fn the_rest_determinant_has_the_sign_of_the_volume(rt: HostRuntime) -> Result<()
     }
     Ok(())
 }
+
+#[test]
+fn products_of_vectors(rt: HostRuntime) {
+    let (a, b) = (v(1, 2, -3), v(4, -5, 6));
+    assert_eq!(rt; dot(a, b), -24);
+    let across = cross(a, b);
+    assert_eq!(rt; across.x, -3);
+    assert_eq!(rt; across.y, -18);
+    assert_eq!(rt; across.z, -13);
+    assert_eq!(rt; dot_wide(v(1, 1, 1), across), -34);
+}
+
+#[test]
+fn places_on_a_straight_way(rt: HostRuntime) {
+    let (start, end) = (v(0, 8, -8), v(4, 0, 8));
+    assert_eq!(rt; at_scale(start, end, 1, 2), v(4, 24, -16));
+    assert_eq!(rt; at_scale(start, end, 0, 0), start);
+    assert_eq!(rt; at_scale(start, end, 256, 8), v(1024, 0, 2048));
+}
+
+#[test]
+fn halved_directions_are_cut_towards_zero(rt: HostRuntime) {
+    assert_eq!(rt; halved(v(-3, 3, -1), 1), v(-1, 1, 0));
+    assert_eq!(rt; halved(v(-3, 3, -1), 0), v(-3, 3, -1));
+}
+
+#[test]
+fn places_move_along_halved_directions(rt: HostRuntime) -> Result<(), Fail> {
+    let list = [v(1_048_576, 0, 5), v(1, 2, 3)];
+    let places = Places::of_list(rt.alloc(), &list)?.ok_or("both are in the box")?;
+    let copied = places.copy(rt.alloc())?;
+    assert_eq!(rt; copied.items(), list.as_slice());
+    let dir = [v(1, -4, 0), v(-5, 5, 1)];
+    assert!(rt; places.moved(rt.alloc(), &dir, 0)?.is_none());
+    let moved = places
+        .moved(rt.alloc(), &dir, 1)?
+        .ok_or("they stay in the box")?;
+    assert_eq!(rt;
+        moved.items(),
+        [v(1_048_576, -2, 5), v(-1, 4, 3)].as_slice()
+    );
+    Ok(())
+}

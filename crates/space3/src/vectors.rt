@@ -11,12 +11,12 @@ pub struct V3 {
     pub z: i64,
 }
 
-/// A vector whose components are products of two numbers.
+/// A vector whose components are products of two numbers, as a cross product, in squared grid units.
 #[derive(Clone, Copy, PartialEq, Eq, Debug)]
-struct W3 {
-    x: i128,
-    y: i128,
-    z: i128,
+pub struct W3 {
+    pub x: i128,
+    pub y: i128,
+    pub z: i128,
 }
 
 fn times(a: i64, b: i64) -> i128
@@ -82,8 +82,17 @@ fn minor(a: i64, b: i64, c: i64, d: i64) -> i128
     minus(times(a, d), times(b, c))
 }
 
-/// The cross product.
-fn cross(a: V3, b: V3) -> W3
+/// The dot product `a · b`. Components are at most 2^30 in absolute value.
+pub fn dot(a: V3, b: V3) -> i128
+    requires left { Within (2 ^ 30) a }
+    requires right { Within (2 ^ 30) b }
+    ensures { result ≡ dot_product a b }
+{
+    plus(plus(times(a.x, b.x), times(a.y, b.y)), times(a.z, b.z))
+}
+
+/// The cross product `a × b`. Components are at most 2^30 in absolute value, and those of the answer at most 2^61.
+pub fn cross(a: V3, b: V3) -> W3
     requires left { Within (2 ^ 30) a }
     requires right { Within (2 ^ 30) b }
     ensures value { unbounded result ≡ cross_product a b }
@@ -96,7 +105,9 @@ fn cross(a: V3, b: V3) -> W3
     }
 }
 
-fn dot_wide(a: V3, b: W3) -> i128
+/// The dot product `a · b` with a cross product. Components of `a` are at most 2^30 in absolute value,
+/// those of `b` at most 2^61.
+pub fn dot_wide(a: V3, b: W3) -> i128
     requires left { Within (2 ^ 30) a }
     requires right { Within (2 ^ 61) (unbounded b) }
     ensures { result ≡ dot_product a (unbounded b) }

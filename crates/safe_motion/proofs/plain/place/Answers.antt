@@ -1,6 +1,6 @@
 use Rattle.std.proofs.Common.{◌∙◌}
 use Rattle.space3.specs.Vectors.{sum_of}
-use Rattle.safe_motion.proofs.PlainLemmas.{multiple-less}
+use Rattle.space3.proofs.Bounds.{multiple-less}
 use Rattle.safe_motion.proofs.plain.place.Goals as goal
 
 pub returns-clause-value : goal.returns-clause-value

@@ -1,4 +1,4 @@
-use Rattle.safe_motion.proofs.PlainLemmas.{product_size}
+use Rattle.space3.proofs.Bounds.{product_size}
 use Rattle.safe_motion.proofs.plain.product.Goals as goal
 
 pub returns-clause-bound : goal.returns-clause-bound

@@ -1,8 +1,7 @@
-use Rattle.std.proofs.Common.{subst, sym, ◌^◌}
-use Rattle.space3.specs.declared.vectors.V3.{V3}
+use Rattle.std.proofs.Common.{◌^◌, subst, sym}
 use Rattle.space3.specs.Vectors.{Within}
 use Rattle.space3.proofs.Bounds.{within-difference}
 use Rattle.space3.proofs.mesh.edge.Goals as goal
 
 pub returns-clause-bound : goal.returns-clause-bound
-returns-clause-bound c = let P : V3 → Type 0 = λ d. Within (2 ^ 30) d in subst P (sym c.sub.ensures) (within-difference c.get.result c.get-2.result c.get.ensures.in_box c.get-2.ensures.in_box)
+returns-clause-bound c = subst (Within (2 ^ 21)) (sym c.sub.ensures) (within-difference c.get.result c.get-2.result c.get.ensures.in_box c.get-2.ensures.in_box)

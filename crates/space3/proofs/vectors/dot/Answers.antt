@@ -1,7 +1,7 @@
 use Rattle.std.proofs.Common.{◌^◌, lit<, lit≤, w64}
 use Rattle.std.specs.Int.{w128}
 use Rattle.whole_laws.proofs.Order.{size_times, size_plus, size_back}
-use Rattle.safe_motion.proofs.plain.dot.Goals as goal
+use Rattle.space3.proofs.vectors.dot.Goals as goal
 
 pub plus-requires-2-clause-left : goal.plus-requires-2-clause-left
 plus-requires-2-clause-left c =
