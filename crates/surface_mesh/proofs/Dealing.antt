@@ -1,0 +1,119 @@
+-- Shares that are dealt to nodes.
+use Rattle.std.proofs.Common.{◌≡◌, ℕ, suc, ◌+◌, ◌*◌, ◌^◌, ◌<◌, ◌≤◌, ℤ, ◌+ℤ◌, Bool, true, false, cond, ◌||◌, List, [], ◌∷◌, set, map, ◌++◌, length, get_or, take, drop, refl, ap, ◌∙◌, subst, sym, arith, inl, inr}
+use Rattle.std.specs.Prelude.{All, ◌==◌, if◌then◌else◌}
+use Rattle.std.specs.List.{IsDistinct, list_any, range_with_len}
+use Rattle.std.proofs.lemmas.Bool.{cases_lt, cases_eq, eq-eqb, eqb-true, eqb-false, ne_eqb, true≢false}
+use Rattle.std.proofs.lemmas.List.{length-take, length-set, get_or-set_other, same_lists}
+use Rattle.std.proofs.lemmas.List.Elements.{All-from_recursion, All-head, All-tail, All-set, All-get_or, All-weaker}
+use Rattle.std.proofs.lemmas.Grind.{get_or-set_at}
+use Rattle.std.proofs.lemmas.Map.Keys.{IsDistinct-head, IsDistinct-tail}
+use Rattle.std.proofs.lemmas.List.Folds.{list_any_none}
+use Rattle.std.proofs.lemmas.List.FromFn.{length-map-range_with_len, get_or-map-range_with_len}
+use Rattle.std.proofs.Math.Seq.{take-append_seam}
+use Rattle.std.proofs.Math.ListN.{get_or-eq_default}
+use Rattle.whole_laws.proofs.Order.{size_sum}
+use Rattle.space3.specs.Vectors.{AtMost}
+use Rattle.surface_mesh.specs.declared.shares.Share.{Share}
+use Rattle.surface_mesh.specs.Shares.{dealt, joined, nothing}
+
+-- each mass is at most so much in absolute value
+abbrev pub AreLight : ℕ → List Share → Type 0
+AreLight most shares = All (λ share. AtMost most share.mass) shares
+
+-- what holds of each element and of the default holds of each read
+pub at_any : {X : Type 0} (P : X → Type 0) (xs : List X) (i : ℕ) (d : X) → All P xs → P d → P (get_or xs i d)
+at_any P xs i d h k = elim (cases_lt i (length xs)) [ inl l ↦ All-get_or P xs i d l h | inr l ↦ subst P (sym (get_or-eq_default xs d l)) k ]
+
+sum_at_most : (m : ℕ) (a b : ℤ) → AtMost m a → AtMost (2 ^ 76) b → AtMost (m + 2 ^ 76) (a +ℤ b)
+sum_at_most m a b h k = record { bound = omega (arith, size_sum a b, h.bound, k.bound) }
+
+more : (m : ℕ) (a : ℤ) → AtMost m a → AtMost (m + 2 ^ 76) a
+more m a h = record { bound = omega (arith, h.bound) }
+
+-- dealing adds a share's mass once for each node, at most
+pub dealt_are_light : (most : ℕ) (share : Share) (shares : List Share) (nodes : List ℕ) → AtMost (2 ^ 76) share.mass → AreLight most shares → AreLight (most + length nodes * 2 ^ 76) (dealt share shares nodes)
+dealt_are_light most share shares [] h k = All-weaker (λ s. AtMost most s.mass) (λ s. AtMost (most + 0 * 2 ^ 76) s.mass) (λ s l. record { bound = omega (arith, l.bound) }) shares k
+dealt_are_light most share shares (n ∷ ns) h k =
+    subst (λ (m : ℕ). AreLight m (dealt share shares (n ∷ ns))) (count most (length ns))
+    (dealt_are_light (most + 2 ^ 76) share (set shares n (joined (get_or shares n nothing) share)) ns h
+    (All-set (λ s. AtMost (most + 2 ^ 76) s.mass) shares n (joined (get_or shares n nothing) share)
+    (sum_at_most most (get_or shares n nothing).mass share.mass (at_any (λ s. AtMost most s.mass) shares n nothing k (record { bound = omega arith })) h)
+    (All-weaker (λ s. AtMost most s.mass) (λ s. AtMost (most + 2 ^ 76) s.mass) (λ s l. more most s.mass l) shares k)))
+  where
+    count : (m l : ℕ) → (m + 2 ^ 76) + l * 2 ^ 76 ≡ m + (suc l) * 2 ^ 76
+    count m l = omega arith
+
+-- while a share is dealt to at most four nodes, each sum stays small
+pub light_at : (share : Share) (shares : List Share) (nodes : List ℕ) (now : List Share) (i node : ℕ) → length nodes ≤ 4 → AtMost (2 ^ 76) share.mass → AreLight (2 ^ 120) shares → now ≡ dealt share shares (take i nodes) → AtMost (2 ^ 125) (get_or now node nothing).mass
+light_at share shares nodes now i node few h k e = record { bound = omega (arith, each.bound, length-take i nodes) }
+  where
+    each : AtMost (2 ^ 120 + length (take i nodes) * 2 ^ 76) (get_or now node nothing).mass
+    each =
+        at_any (λ s. AtMost (2 ^ 120 + length (take i nodes) * 2 ^ 76) s.mass) now node nothing
+        (subst (λ (shares : List Share). AreLight (2 ^ 120 + length (take i nodes) * 2 ^ 76) shares) (sym e) (dealt_are_light (2 ^ 120) share shares (take i nodes) h k))
+        (record { bound = omega arith })
+
+-- a node's share, after a share was dealt to these nodes
+abbrev pub after : Share → (ℕ → Share) → List ℕ → ℕ → Share
+after share f nodes k = if list_any (λ node. node == k) nodes then joined (f k) share else f k
+
+-- a write to a list of values, one for each number
+set-map-range : {X : Type 0} (f g : ℕ → X) (count i : ℕ) (x : X) → i < count → x ≡ g i → ((k : ℕ) → (i ≡ k → ⊥) → f k ≡ g k) → set (map f (range_with_len 0 count)) i x ≡ map g (range_with_len 0 count)
+set-map-range {X} f g count i x there e same =
+    same_lists (set old i x) (map g (range_with_len 0 count))
+    (length-set old i x ∙ length-map-range_with_len f 0 count ∙ sym (length-map-range_with_len g 0 count))
+    (λ k d l. each k d (omega (arith, l, length-set old i x, length-map-range_with_len f 0 count)))
+  where
+    old : List X
+    old = map f (range_with_len 0 count)
+
+    each : (k : ℕ) (d : X) → k < count → get_or (set (map f (range_with_len 0 count)) i x) k d ≡ get_or (map g (range_with_len 0 count)) k d
+    each k d l =
+        elim (cases_eq k i) [
+          | inl p ↦ get_or-set_at (map f (range_with_len 0 count)) i k x d p (omega (arith, there, length-map-range_with_len f 0 count)) ∙ e ∙ ap g (sym p) ∙ sym (read g k d l)
+          | inr q ↦ get_or-set_other (map f (range_with_len 0 count)) i k x d q ∙ read f k d l ∙ same k (λ p. q (sym p)) ∙ sym (read g k d l)
+        ]
+      where
+        read : (h : ℕ → X) (k : ℕ) (d : X) → k < count → get_or (map h (range_with_len 0 count)) k d ≡ h k
+        read h k d l = get_or-map-range_with_len h 0 count k k d l (omega arith)
+
+-- different nodes get the share once each
+pub dealt_to_different : (share : Share) (f : ℕ → Share) (count : ℕ) (nodes : List ℕ) → IsDistinct (λ i j. i == j) nodes → All (λ node. node < count) nodes → dealt share (map f (range_with_len 0 count)) nodes ≡ map (after share f nodes) (range_with_len 0 count)
+dealt_to_different share f count [] different there = refl
+dealt_to_different share f count (n ∷ ns) different there =
+    ap (λ (shares : List Share). dealt share shares ns) first
+    ∙ dealt_to_different share (after share f (n ∷ [])) count ns (IsDistinct-tail (λ i j. i == j) n ns different) (All-tail (λ node. node < count) n ns there)
+    ∙ (λ i. map (λ k. both (n == k) (list_any (λ node. node == k) ns) (f k) (apart k) i) (range_with_len 0 count))
+  where
+    here : n < count
+    here = All-head (λ node. node < count) n ns there
+
+    chosen : (b : Bool) (x y : Share) → b ≡ true → x ≡ cond (b || false) x y
+    chosen true x y e = refl
+    chosen false x y e = cc
+
+    passed : (b : Bool) (x y : Share) → b ≡ false → y ≡ cond (b || false) x y
+    passed true x y e = cc
+    passed false x y e = refl
+
+    first : set (map f (range_with_len 0 count)) n (joined (get_or (map f (range_with_len 0 count)) n nothing) share) ≡ map (after share f (n ∷ [])) (range_with_len 0 count)
+    first =
+        set-map-range f (after share f (n ∷ [])) count n (joined (get_or (map f (range_with_len 0 count)) n nothing) share) here
+        (ap (λ (s : Share). joined s share) (get_or-map-range_with_len f 0 count n n nothing here (omega arith)) ∙ chosen (n == n) (joined (f n) share) (f n) (eq-eqb n n refl))
+        (λ k h. passed (n == k) (joined (f k) share) (f k) (ne_eqb n k h))
+
+    both : (a b : Bool) (x : Share) → (a ≡ true → b ≡ false) → cond b (joined (cond (a || false) (joined x share) x) share) (cond (a || false) (joined x share) x) ≡ cond (a || b) (joined x share) x
+    both true true x h = absurd (true≢false (h refl))
+    both true false x h = refl
+    both false true x h = refl
+    both false false x h = refl
+
+    apart : (k : ℕ) → (n == k) ≡ true → list_any (λ node. node == k) ns ≡ false
+    apart k e =
+        list_any_none (λ node. node == k) ns
+        (All-weaker (λ m. (n == m) ≡ false) (λ m. (m == k) ≡ false) (λ m h. ne_eqb m k (λ p. eqb-false n m h (eqb-true n k e ∙ sym p))) ns
+        (All-from_recursion (λ m. (n == m) ≡ false) ns (IsDistinct-head (λ i j. i == j) n ns different)))
+
+-- a whole list that is written back
+pub written_back : (now old : List Share) (count : ℕ) → length now ≡ count → take count (now ++ drop (length now) old) ≡ now
+written_back now old count e = subst (λ (n : ℕ). take n (now ++ drop (length now) old) ≡ now) e (take-append_seam now (drop (length now) old))
