@@ -1,0 +1,9 @@
+//! What a mesh must not have at the start: the first defect by name, or none.
+#![tactic(auto)]
+
+mod defects;
+
+pub use defects::{Defect, first_defect};
+
+#[cfg(test)]
+mod tests;
