@@ -1,0 +1,6 @@
+pub mod InRange
+pub mod Lookups
+pub mod Names
+pub mod Numbers
+pub mod Parsed
+pub mod Steps

@@ -1,0 +1,31 @@
+use Rattle.std.proofs.Common.{◌≡◌, [], refl, w8, w32, arith}
+use Rattle.toml.specs.View.{table_view}
+use Rattle.scene_toml.specs.Scenes.{material_at}
+use Rattle.scene_toml.proofs.Numbers.{stays, fits_unsigned}
+use Rattle.scene_toml.proofs.Steps.{gives_failure}
+use Rattle.scene_toml.proofs.scene.scene_in.Goals as goal
+
+pub returns-in_err-base : goal.returns-in_err-base
+returns-in_err-base c =
+    gives_failure _ c.in_err-base.field-0.0 (material_at (table_view c.args.table.now)) _ c.from_residual-in_err-base.ensures.1 c.in_err-base.ensures
+    (λ fault e. rw (c.in_ok-mesh.ensures, c.in_ok-out.ensures, c.in_ok-digits.ensures.reading, c.in_ok-frames.ensures.reading, c.in_ok-budget.ensures.reading, c.in_ok-tol.ensures.reading, c.in_ok-gravity.ensures, c.in_ok-dhat.ensures.reading, c.in_ok-kappa.ensures.reading, e) refl)
+
+pub returns : goal.returns
+returns c =
+    let digits = stays _ _ c.in_ok-digits.digits c.in_ok-digits.ensures.range (omega arith) (omega arith) in
+    let frames = stays _ _ c.in_ok-frames.frames c.in_ok-frames.ensures.range (omega arith) (omega arith) in
+    let budget = stays _ _ c.in_ok-budget.budget c.in_ok-budget.ensures.range (omega arith) (omega arith) in
+    let tol = stays _ _ c.in_ok-tol.tol c.in_ok-tol.ensures.range (omega arith) (omega arith) in
+    let dhat = stays _ _ c.in_ok-dhat.dhat c.in_ok-dhat.ensures.range (omega arith) (omega arith) in
+    let kappa = stays _ _ c.in_ok-kappa.kappa c.in_ok-kappa.ensures.range (omega arith) (omega arith) in
+    let parts : c.of_vec-parts.result ≡ [] = rw c.of_vec-parts.ensures c.new.ensures.items in
+    rw (digits, frames, budget, tol, dhat, kappa, parts, c.in_ok-mesh.ensures, c.in_ok-out.ensures, c.in_ok-digits.ensures.reading, c.in_ok-frames.ensures.reading, c.in_ok-budget.ensures.reading, c.in_ok-tol.ensures.reading, c.in_ok-gravity.ensures, c.in_ok-dhat.ensures.reading, c.in_ok-kappa.ensures.reading, c.in_ok-base.ensures) refl
+
+pub overflow_cast-result : goal.overflow_cast-result
+overflow_cast-result c = fits_unsigned w8 _ _ c.in_ok-digits.digits 0 c.in_ok-digits.ensures.range (omega arith) (omega arith) (omega arith) (omega arith)
+
+pub overflow_cast-result-2 : goal.overflow_cast-result-2
+overflow_cast-result-2 c = fits_unsigned w32 _ _ c.in_ok-frames.frames 9999 c.in_ok-frames.ensures.range (omega arith) (omega arith) (omega arith) (omega arith)
+
+pub overflow_cast-result-3 : goal.overflow_cast-result-3
+overflow_cast-result-3 c = fits_unsigned w32 _ _ c.in_ok-budget.budget 1000 c.in_ok-budget.ensures.range (omega arith) (omega arith) (omega arith) (omega arith)

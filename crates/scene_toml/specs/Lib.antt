@@ -1,0 +1,5 @@
+pub mod Gives
+pub mod Keys
+pub mod Scenes
+pub mod Tables
+pub mod Values

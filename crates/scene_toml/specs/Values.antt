@@ -1,0 +1,60 @@
+-- The value at a key, or why it is refused.
+use Rattle.std.specs.Prelude.{List, ℕ, ℤ, pos, length, Option, Some, None, Result, Ok, Err, ◌&&◌, int_le, if◌then◌else◌}
+use Rattle.toml.specs.Data.{Data, string, integer, array, Items, no_items, item, Members, get_member}
+use Rattle.space3.specs.declared.vectors.V3.{V3}
+use Rattle.space3.specs.Vectors.{vector}
+use Rattle.scene_toml.specs.declared.keys.Section.{Section}
+use Rattle.scene_toml.specs.declared.refusal.SceneErr.{SceneErr}
+use Rattle.scene_toml.specs.declared.refusal.SceneErr.TheVariants.{Missing, WrongType, OutOfRange}
+use Rattle.scene_toml.specs.Keys.{Key, printed}
+
+-- what follows a value, where it isn't refused
+abbrev pub and_then : {T U : Type 0} → Result T SceneErr → (T → Result U SceneErr) → Result U SceneErr
+and_then (Ok x) f = f x
+and_then (Err e) f = Err e
+
+-- the number, where it lies in the key's range
+abbrev pub in_range : Section → Key → ℤ → Result ℤ SceneErr
+in_range section key n =
+    if int_le key.least n && int_le n key.most then Ok n else Err (OutOfRange (printed section key.name) n)
+
+-- an integer in the key's range
+abbrev pub integer_of : Section → Key → Option Data → Result ℤ SceneErr
+integer_of section key (Some (integer n)) = in_range section key n
+integer_of section key (Some _) = Err (WrongType (printed section key.name))
+integer_of section key None = Err (Missing (printed section key.name))
+
+abbrev pub integer_at : Section → Key → Members → Result ℤ SceneErr
+integer_at section key members = integer_of section key (get_member key.name members)
+
+-- a text whose length in bytes is in the key's range
+abbrev pub text_of : Section → Key → Option Data → Result (List ℕ) SceneErr
+text_of section key (Some (string text)) = and_then (in_range section key (pos (length text))) (λ _. Ok text)
+text_of section key (Some _) = Err (WrongType (printed section key.name))
+text_of section key None = Err (Missing (printed section key.name))
+
+abbrev pub text_at : Section → Key → Members → Result (List ℕ) SceneErr
+text_at section key members = text_of section key (get_member key.name members)
+
+-- the three integers that are all of a list
+abbrev pub three_integers : Items → Option V3
+three_integers (item (integer x) (item (integer y) (item (integer z) no_items))) = Some (vector x y z)
+three_integers _ = None
+
+-- a vector whose components are in the key's range
+abbrev pub components_of : Section → Key → Option V3 → Result V3 SceneErr
+components_of section key (Some v) =
+    and_then (in_range section key v.x) (λ x.
+    and_then (in_range section key v.y) (λ y.
+    and_then (in_range section key v.z) (λ z.
+    Ok (vector x y z))))
+components_of section key None = Err (WrongType (printed section key.name))
+
+-- a list of three integers in the key's range, or what stands for one that is absent
+abbrev pub vector_of : Section → Key → V3 → Option Data → Result V3 SceneErr
+vector_of section key absent (Some (array items)) = components_of section key (three_integers items)
+vector_of section key absent (Some _) = Err (WrongType (printed section key.name))
+vector_of section key absent None = Ok absent
+
+abbrev pub vector_at : Section → Key → V3 → Members → Result V3 SceneErr
+vector_at section key absent members = vector_of section key absent (get_member key.name members)

@@ -1,0 +1,18 @@
+//! Scenes as TOML: `read_scene` gives the scene that a text means, or the first fault in it.
+#![tactic(auto)]
+
+mod keys;
+mod laws;
+mod refusal;
+mod scene;
+mod tables;
+mod texts;
+mod values;
+
+pub use laws::scenes_are_in_range;
+pub use refusal::{ReadSceneErr, SceneErr};
+pub use scene::{Scene, read_scene};
+pub use texts::{KeyText, NameText};
+
+#[cfg(test)]
+mod tests;

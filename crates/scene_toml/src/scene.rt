@@ -1,0 +1,128 @@
+//! Reading a scene.
+ghost use Rattle.std.specs.Prelude.{IfOk};
+ghost use Rattle.toml.specs.View.{table_view};
+ghost use Rattle.scene_toml.specs.Gives.{Gives};
+ghost use Rattle.scene_toml.specs.Scenes.{IsScene, material_at, material_in, scene_in, scene_of_members, scene_of_text};
+
+use crate::keys::{
+    BUDGET, DENSITY, DHAT, DIGITS, FRAMES, GRAVITY, KAPPA, LAMBDA, MATERIAL, MESH, MU, OUT,
+    Section, TOL,
+};
+use crate::refusal::{ReadSceneErr, SceneErr};
+use crate::tables::{first_unknown, value_at};
+use crate::texts::NameText;
+use crate::values::{integer_at, missing, text_at, vector_at, wrong_type};
+use space3::V3;
+use std::alloc::Global;
+use surface_mesh::{Material, Numbers, PartList};
+use toml::Table;
+
+const ORIGIN: V3 = V3 { x: 0, y: 0, z: 0 };
+
+/// A scene: which mesh moves under which numbers, for how many frames, and where they go.
+#[derive(Drop)]
+pub struct Scene {
+    /// The name of the mesh's file, of 1 to 200 bytes.
+    pub mesh: NameText,
+    /// What the names of the frames' files begin with, of 1 to 200 bytes.
+    pub out: NameText,
+    /// A grid unit is 10^-digits of the mesh file's unit. Always 0.
+    pub digits: u8,
+    /// The number of frames after the first, at most 9999.
+    pub frames: u32,
+    /// The most steps of a frame, 1 to 1000.
+    pub budget: u32,
+    /// A frame has converged where no component of the gradient is above this in absolute value, 0 to 2^62.
+    pub tol: i64,
+    /// The numbers that the bodies and their contacts get.
+    pub numbers: Numbers,
+}
+
+// The material that its table gives, at rest.
+fn material_in(alloc: Global, table: &Table) -> Result<Material, ReadSceneErr>
+    ensures { Gives result (material_in (table_view table.now)) }
+{
+    let density = integer_at(alloc, Section::Material, &DENSITY, table)?;
+    let mu = integer_at(alloc, Section::Material, &MU, table)?;
+    let lambda = integer_at(alloc, Section::Material, &LAMBDA, table)?;
+    Ok(Material {
+        density,
+        mu,
+        lambda,
+        fixed: false,
+        velocity: ORIGIN,
+    })
+}
+
+fn material_at(alloc: Global, table: &Table) -> Result<Material, ReadSceneErr>
+    ensures { Gives result (material_at (table_view table.now)) }
+{
+    let Some(value) = value_at(table, MATERIAL.name()) else {
+        return Err(missing(alloc, Section::Top, &MATERIAL)?);
+    };
+    match value.as_table() {
+        Some(table) => material_in(alloc, table),
+        None => Err(wrong_type(alloc, Section::Top, &MATERIAL)?),
+    }
+}
+
+// The scene that a table with no unknown key gives.
+fn scene_in(alloc: Global, table: &Table) -> Result<Scene, ReadSceneErr>
+    ensures { Gives result (scene_in (table_view table.now)) }
+{
+    let mesh = text_at(alloc, Section::Top, &MESH, table)?;
+    let out = text_at(alloc, Section::Top, &OUT, table)?;
+    let digits = integer_at(alloc, Section::Top, &DIGITS, table)?;
+    let frames = integer_at(alloc, Section::Top, &FRAMES, table)?;
+    let budget = integer_at(alloc, Section::Top, &BUDGET, table)?;
+    let tol = integer_at(alloc, Section::Top, &TOL, table)?;
+    let gravity = vector_at(alloc, Section::Top, &GRAVITY, ORIGIN, table)?;
+    let dhat = integer_at(alloc, Section::Top, &DHAT, table)?;
+    let kappa = integer_at(alloc, Section::Top, &KAPPA, table)?;
+    let base = material_at(alloc, table)?;
+    let parts = PartList::of_vec(Vec::new(alloc));
+    Ok(Scene {
+        mesh,
+        out,
+        digits: digits as u8,
+        frames: frames as u32,
+        budget: budget as u32,
+        tol,
+        numbers: Numbers {
+            base,
+            parts,
+            kappa,
+            dhat,
+            gravity,
+        },
+    })
+}
+
+fn scene_of_table(alloc: Global, table: &Table) -> Result<Scene, ReadSceneErr>
+    ensures { Gives result (scene_of_members (table_view table.now)) }
+{
+    match first_unknown(alloc, table)? {
+        Some(key) => Err(ReadSceneErr::Scene(SceneErr::UnknownKey { key })),
+        None => scene_in(alloc, table),
+    }
+}
+
+/// The scene that a text means. README.md has its keys, in the order in which they are tried.
+///
+/// The text's first fault is found so: it isn't TOML; it has a key that no scene has, those of the top table
+/// before those of `material`, each in byte order; then each key in turn is missing, of another type, or out of
+/// range.
+pub fn read_scene(alloc: Global, bytes: &[u8]) -> Result<Scene, ReadSceneErr>
+    // The answer is the scene that the text means or its first fault, unless memory was wanting.
+    ensures scene { Gives result (scene_of_text bytes.now) }
+    ensures in_range { IfOk result IsScene }
+{
+    match toml::table_from_slice(alloc, bytes) {
+        Ok(table) => scene_of_table(alloc, &table),
+        Err(err) => Err(if err.is_memory() {
+            ReadSceneErr::Memory
+        } else {
+            ReadSceneErr::Scene(SceneErr::NotToml)
+        }),
+    }
+}

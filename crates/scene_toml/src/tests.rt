@@ -1,0 +1,120 @@
+use super::*;
+use std::alloc::Global;
+use std::test::Fail;
+
+const FALL: &str = "mesh = \"t.msh\"
+out = \"fall\"
+digits = 0
+frames = 3
+budget = 10
+tol = 0
+gravity = [0, 0, -512]
+dhat = 2
+kappa = 1
+[material]
+density = 1
+mu = 0
+lambda = 0
+";
+
+/// What is said of a text: the names and a few numbers of its scene, or its fault.
+fn said(alloc: Global, text: &[u8]) -> Result<String, Fail> {
+    Ok(match read_scene(alloc, text) {
+        Ok(scene) => {
+            let (mesh, out) = (scene.mesh.text(), scene.out.text());
+            let (frames, gravity) = (scene.frames, scene.numbers.gravity.z);
+            format!(in alloc; "{mesh} {out} {frames} {gravity}")?
+        }
+        Err(ReadSceneErr::Memory) => format!(in alloc; "memory")?,
+        Err(ReadSceneErr::Scene(fault)) => match fault {
+            SceneErr::NotToml => format!(in alloc; "not toml")?,
+            SceneErr::UnknownKey { key } => format!(in alloc; "unknown key {}", key.text())?,
+            SceneErr::Missing { key } => format!(in alloc; "missing key {}", key.text())?,
+            SceneErr::WrongType { key } => format!(in alloc; "wrong type {}", key.text())?,
+            SceneErr::OutOfRange { key, value } => {
+                format!(in alloc; "out of range {} {value}", key.text())?
+            }
+        },
+    })
+}
+
+/// What is said of the scene with another text in place of a part of it.
+fn said_with(alloc: Global, part: &str, other: &str) -> Result<String, Fail> {
+    said(alloc, FALL.replace(alloc, part, other)?.as_bytes())
+}
+
+#[test]
+fn a_scene_is_read(rt: HostRuntime) -> Result<(), Fail> {
+    let alloc = rt.alloc();
+    assert_eq!(rt; said(alloc, FALL.as_bytes())?.as_str(), "t.msh fall 3 -512");
+    assert_eq!(rt;
+        said_with(alloc, "gravity = [0, 0, -512]\n", "")?.as_str(),
+        "t.msh fall 3 0"
+    );
+    Ok(())
+}
+
+#[test]
+fn the_first_fault_is_named(rt: HostRuntime) -> Result<(), Fail> {
+    let alloc = rt.alloc();
+    assert_eq!(rt; said(alloc, b"mesh = '\xff'")?.as_str(), "not toml");
+    for (part, other, fault) in [
+        (
+            "tol = 0\ngravity = [0, 0, -512]\ndhat = 2\nkappa = 1",
+            "dhat = 2\nkappa = 0",
+            "missing key tol",
+        ),
+        ("kappa = 1", "kappa = 0", "out of range kappa 0"),
+        ("kappa = 1", "kappa = 0\nkapa = 1", "unknown key kapa"),
+        (
+            "kappa = 1\n[material]",
+            "[material]\nfoo = 1",
+            "unknown key material.foo",
+        ),
+        ("mu = 0\nlambda = 0", "", "missing key material.mu"),
+        ("lambda = 0", "lambda = 0.0", "wrong type material.lambda"),
+        ("frames = 3", "frames = true", "wrong type frames"),
+        ("\"fall\"", "\"\"", "out of range out 0"),
+        ("-512]", "-512, 0]", "wrong type gravity"),
+        ("[0, 0, -512]", "[2000000, 0]", "wrong type gravity"),
+        (
+            "[0, 0, -512]",
+            "[0, 2000000, 3000000]",
+            "out of range gravity 2000000",
+        ),
+    ] {
+        assert_eq!(rt; said_with(alloc, part, other)?.as_str(), fault);
+    }
+    Ok(())
+}
+
+/// What is said of the scene with this value at an integer key.
+fn said_at(alloc: Global, key: &str, line: &str, value: i64) -> Result<String, Fail> {
+    said_with(alloc, line, &format!(in alloc; "{key} = {value}\n")?)
+}
+
+#[test]
+fn each_integer_has_its_range(rt: HostRuntime) -> Result<(), Fail> {
+    let alloc = rt.alloc();
+    for (key, line, [below, least, most, above]) in [
+        ("digits", "digits = 0\n", [-1, 0, 0, 1]),
+        ("frames", "frames = 3\n", [-1, 0, 9999, 10000]),
+        ("budget", "budget = 10\n", [0, 1, 1000, 1001]),
+        ("tol", "tol = 0\n", [-1, 0, 1 << 62, (1 << 62) + 1]),
+        ("dhat", "dhat = 2\n", [1, 2, 1024, 1025]),
+        ("kappa", "kappa = 1\n", [0, 1, 1 << 40, (1 << 40) + 1]),
+        ("density", "density = 1\n", [0, 1, 1024, 1025]),
+        ("mu", "mu = 0\n", [-1, 0, 0, 1]),
+        ("lambda", "lambda = 0\n", [-1, 0, 0, 1]),
+    ] {
+        for value in [below, above] {
+            let said = said_at(alloc, key, line, value)?;
+            assert!(rt; said.starts_with("out of range"), "{value} at {key}");
+        }
+        for value in [least, most] {
+            let said = said_at(alloc, key, line, value)?;
+            assert!(rt; said.starts_with("t.msh fall"), "{value} at {key}");
+        }
+    }
+    Ok(())
+}

@@ -1,0 +1,142 @@
+//! The value at a key, or why it is refused.
+ghost use Rattle.std.specs.Prelude.{◌≡◌, IfOk};
+ghost use Rattle.toml.specs.View.{items_view, table_view};
+ghost use Rattle.surface_mesh.specs.Materials.{IsFrom};
+ghost use Rattle.scene_toml.specs.declared.refusal.ReadSceneErr.TheVariants.{Scene};
+ghost use Rattle.scene_toml.specs.declared.refusal.SceneErr.TheVariants.{Missing, WrongType};
+ghost use Rattle.scene_toml.specs.Gives.{Gives};
+ghost use Rattle.scene_toml.specs.Keys.{printed};
+ghost use Rattle.scene_toml.specs.Values.{in_range, integer_at, text_at, vector_at, components_of, three_integers};
+
+use crate::keys::{Key, Section};
+use crate::refusal::{ReadSceneErr, SceneErr};
+use crate::tables::value_at;
+use crate::texts::NameText;
+use space3::V3;
+use std::alloc::{AllocError, Global};
+use toml::{Table, Value};
+
+/// The refusal of a table without the key.
+pub(crate) fn missing(
+    alloc: Global,
+    section: Section,
+    key: &Key,
+) -> Result<ReadSceneErr, AllocError>
+    ensures { IfOk result (λ e. e ≡ Scene (Missing (printed section key.now.name))) }
+{
+    let key = key.printed(alloc, section)?;
+    Ok(ReadSceneErr::Scene(SceneErr::Missing { key }))
+}
+
+/// The refusal of a value of another type at the key.
+pub(crate) fn wrong_type(
+    alloc: Global,
+    section: Section,
+    key: &Key,
+) -> Result<ReadSceneErr, AllocError>
+    ensures { IfOk result (λ e. e ≡ Scene (WrongType (printed section key.now.name))) }
+{
+    let key = key.printed(alloc, section)?;
+    Ok(ReadSceneErr::Scene(SceneErr::WrongType { key }))
+}
+
+// The number, where it lies in the key's range.
+fn in_range(alloc: Global, section: Section, key: &Key, number: i64) -> Result<i64, ReadSceneErr>
+    ensures reading { Gives result (in_range section key.now number) }
+    ensures range { IfOk result (IsFrom key.now.least key.now.most) }
+{
+    if key.allows(number) {
+        return Ok(number);
+    }
+    let key = key.printed(alloc, section)?;
+    Err(ReadSceneErr::Scene(SceneErr::OutOfRange { key, value: number }))
+}
+
+/// The integer at a key, which has to lie in the key's range.
+pub(crate) fn integer_at(
+    alloc: Global,
+    section: Section,
+    key: &Key,
+    table: &Table,
+) -> Result<i64, ReadSceneErr>
+    ensures reading { Gives result (integer_at section key.now (table_view table.now)) }
+    ensures range { IfOk result (IsFrom key.now.least key.now.most) }
+{
+    let Some(value) = value_at(table, key.name()) else {
+        return Err(missing(alloc, section, key)?);
+    };
+    let Some(number) = value.as_integer() else {
+        return Err(wrong_type(alloc, section, key)?);
+    };
+    in_range(alloc, section, key, number)
+}
+
+/// The text at a key, whose length in bytes has to lie in the key's range.
+pub(crate) fn text_at(
+    alloc: Global,
+    section: Section,
+    key: &Key,
+    table: &Table,
+) -> Result<NameText, ReadSceneErr>
+    ensures { Gives result (text_at section key.now (table_view table.now)) }
+{
+    let Some(value) = value_at(table, key.name()) else {
+        return Err(missing(alloc, section, key)?);
+    };
+    let Some(text) = value.as_str() else {
+        return Err(wrong_type(alloc, section, key)?);
+    };
+    in_range(alloc, section, key, text.len() as i64)?;
+    Ok(NameText::of_text(String::from_str(alloc, text)?))
+}
+
+// The vector of a list that has just three items, each an integer.
+fn three_integers(items: &[Value]) -> Option<V3>
+    ensures { result ≡ three_integers (items_view items.now) }
+{
+    let [x, y, z] = items else {
+        return None;
+    };
+    Some(V3 {
+        x: x.as_integer()?,
+        y: y.as_integer()?,
+        z: z.as_integer()?,
+    })
+}
+
+// The vector, where each component lies in the key's range.
+fn components_in_range(
+    alloc: Global,
+    section: Section,
+    key: &Key,
+    vector: V3,
+) -> Result<V3, ReadSceneErr>
+    ensures { Gives result (components_of section key.now (Some vector)) }
+{
+    let x = in_range(alloc, section, key, vector.x)?;
+    let y = in_range(alloc, section, key, vector.y)?;
+    let z = in_range(alloc, section, key, vector.z)?;
+    Ok(V3 { x, y, z })
+}
+
+/// The list of three integers at a key, each in the key's range, or what stands for one that is absent.
+pub(crate) fn vector_at(
+    alloc: Global,
+    section: Section,
+    key: &Key,
+    absent: V3,
+    table: &Table,
+) -> Result<V3, ReadSceneErr>
+    ensures { Gives result (vector_at section key.now absent (table_view table.now)) }
+{
+    let Some(value) = value_at(table, key.name()) else {
+        return Ok(absent);
+    };
+    let Some(items) = value.as_array() else {
+        return Err(wrong_type(alloc, section, key)?);
+    };
+    let Some(vector) = three_integers(items.as_slice()) else {
+        return Err(wrong_type(alloc, section, key)?);
+    };
+    components_in_range(alloc, section, key, vector)
+}
