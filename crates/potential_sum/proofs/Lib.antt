@@ -1,0 +1,4 @@
+pub mod Example
+pub mod Gradients
+pub mod Targets
+pub mod Totals

@@ -1,0 +1,4 @@
+pub mod Example
+pub mod Inertia
+pub mod Potential
+pub mod Terms

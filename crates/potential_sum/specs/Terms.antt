@@ -1,0 +1,23 @@
+-- What the potential of a frame is made of beside its bodies.
+use Rattle.std.specs.Prelude.{◌≡◌, ◌^◌, List, map, zip, length, All}
+use Rattle.space3.specs.declared.vectors.V3.{V3}
+use Rattle.space3.specs.Vectors.{Within}
+use Rattle.surface_mesh.specs.declared.setup.Setup.{Setup}
+use Rattle.potential_sum.specs.Inertia.{target_of}
+
+-- the terms of a frame: one target per node, in 1/256 grid unit
+pub record FrameTerms : Type 0 where
+  pub targets : List V3
+
+-- the targets of nodes that stand at `now` after they stood at `before`
+abbrev pub targets_of : V3 → (now before : List V3) → List V3
+targets_of gravity now before = map (λ node. target_of gravity node.0 node.1) (zip now before)
+
+-- the terms of a frame that begins at the places `now` after the places `before`
+abbrev pub terms_of : Setup → (now before : List V3) → FrameTerms
+terms_of setup now before = record { targets = targets_of setup.numbers.gravity now before }
+
+-- the terms are of this setup, and targets are within 2^30
+pub record StandFor (setup : Setup) (terms : FrameTerms) : Type 0 where
+  pub each : length terms.targets ≡ length setup.mesh.numbers
+  pub near : All (Within (2 ^ 30)) terms.targets
