@@ -1,0 +1,21 @@
+use Rattle.std.proofs.Common.{◌∙◌, refl, ap, length, subst}
+use Rattle.space3.proofs.Moves.{length-moved_by}
+use Rattle.line_search.specs.Accepted.{IsAllowed}
+use Rattle.line_search.proofs.step.tried.Goals as goal
+
+pub lower_if_allowed-requires-clause-each : goal.lower_if_allowed-requires-clause-each
+lower_if_allowed-requires-clause-each c =
+    let moved = rw c.in-Some.is at c.in_ok-y.ensures in
+    ap length moved.places ∙ length-moved_by c.args.x.now c.args.dir.now c.args.half c.requires.each ∙ c.requires.pose.each
+
+pub returns-clause-accepted : goal.returns-clause-accepted
+returns-clause-accepted c = (
+  λ t.
+      let moving = c.moves.ensures.0 c.if-not-moves.false in
+      let moved = rw c.in-Some.is at c.in_ok-y.ensures in
+      record {
+        moves = (moving.0, moving.1, moving.2, moving.3, moving.4.moves);
+        allowed = subst (IsAllowed c.args.setup.now c.args.terms.now c.args.x.now) moved.places (c.in-Some-lower_if_allowed.ensures.allowed.0 refl);
+      },
+  λ a. refl,
+)

@@ -1,0 +1,4 @@
+pub mod Accepted
+pub mod Corners
+pub mod Tried
+pub mod Upright
