@@ -1,0 +1,94 @@
+-- What can be decided of a step: whether it is accepted, and so whether places have a step or are at rest.
+use Rattle.std.proofs.Common.{◌≡◌, ℕ, ◌+◌, ◌^◌, ℤ, pos, ◌+ℤ◌, ◌≤ℤ◌, ◌<ℤ◌, List, ◌⊎◌, inl, inr, refl, unsigned_abs}
+use Rattle.std.specs.Prelude.{IsTrue}
+use Rattle.std.proofs.Math.Decide.{dec_le}
+use Rattle.std.proofs.Math.IntN.{ℤ_discrete}
+use Rattle.space3.specs.declared.vectors.V3.{V3}
+use Rattle.space3.specs.Vectors.{AtMost, Within, vector, origin, determinant}
+use Rattle.space3.specs.Box.{IsInTheBox}
+use Rattle.space3.specs.Moved.{halved, moved_by}
+use Rattle.safe_motion.specs.declared.motion.Corners.{Corners}
+use Rattle.safe_motion.specs.declared.motion.Edges.{Edges}
+use Rattle.safe_motion.specs.Certificates.{ArePositive, StaysPositive, VolumeCertificate, edges_at}
+use Rattle.safe_motion.specs.Safety.{corners}
+use Rattle.surface_mesh.specs.declared.setup.Setup.{Setup}
+use Rattle.surface_mesh.specs.Edges.{has_edges_within}
+use Rattle.potential_sum.specs.Terms.{FrameTerms}
+use Rattle.potential_sum.specs.Potential.{potential, gradient}
+use Rattle.line_search.specs.Accepted.{IsAllowed, IsAccepted, IsFirstAccepted, HasNoAccepted, depth, most_halvings}
+use Rattle.line_search.specs.Upright.{longest_edge}
+use Rattle.frame_driver.specs.Directions.{jacobi}
+use Rattle.frame_driver.specs.Frames.{IsAtRest, HasStep, HasNoStep}
+use Rattle.frame_driver.proofs.Decided.{dec_along, dec_not, dec_two, dec_three, dec_four, dec_IsTrue, dec_lt_ℤ, dec_le_ℤ, dec_All, dec_Any, dec_below, least_or_none}
+
+-- ---- vectors
+dec_AtMost : (b : ℕ) (a : ℤ) → Dec (AtMost b a)
+dec_AtMost b a = dec_along (dec_le (unsigned_abs a) b) (λ h. record { bound = h }) (λ h. h.bound)
+
+pub dec_Within : (b : ℕ) (a : V3) → Dec (Within b a)
+dec_Within b a =
+    dec_along (dec_three (dec_AtMost b a.x) (dec_AtMost b a.y) (dec_AtMost b a.z))
+    (λ h. record { x = h.0; y = h.1; z = h.2 }) (λ h. (h.x, h.y, h.z))
+
+dec_same : (a b : V3) → Dec (a ≡ b)
+dec_same a b =
+    dec_along (dec_three (ℤ_discrete a.x b.x) (ℤ_discrete a.y b.y) (ℤ_discrete a.z b.z))
+    (λ e. λ i. vector (e.0 i) (e.1 i) (e.2 i)) (λ e. (λ i. (e i).x, λ i. (e i).y, λ i. (e i).z))
+
+-- ---- certificates
+dec_above : (a : ℤ) → Dec (pos 0 <ℤ a)
+dec_above a = dec_lt_ℤ (pos 0) a
+
+dec_ArePositive : (s t : Edges) → Dec (ArePositive s t)
+dec_ArePositive s t =
+    dec_along
+    (dec_four
+    (dec_above (determinant s.u s.v s.w))
+    (dec_above (determinant t.u s.v s.w +ℤ determinant s.u t.v s.w +ℤ determinant s.u s.v t.w))
+    (dec_above (determinant t.u t.v s.w +ℤ determinant t.u s.v t.w +ℤ determinant s.u t.v t.w))
+    (dec_above (determinant t.u t.v t.w)))
+    (λ h. record { first = h.0; second = h.1; third = h.2; fourth = h.3 }) (λ h. (h.first, h.second, h.third, h.fourth))
+
+pub dec_VolumeCertificate : (depth : ℕ) (t : Corners) → Dec (VolumeCertificate depth t)
+dec_VolumeCertificate depth t =
+    dec_below (λ j. StaysPositive t j (2 ^ depth))
+    (λ j. dec_ArePositive (edges_at j (2 ^ depth) t) (edges_at (j + 1) (2 ^ depth) t)) (2 ^ depth)
+
+-- ---- steps
+pub dec_IsAllowed : (setup : Setup) (terms : FrameTerms) (x y : List V3) → Dec (IsAllowed setup terms x y)
+dec_IsAllowed setup terms x y =
+    dec_along
+    (dec_four
+    (dec_All IsInTheBox (dec_Within (2 ^ 20)) y)
+    (dec_All (λ tet. IsTrue (has_edges_within longest_edge y tet.nodes)) (λ tet. dec_IsTrue (has_edges_within longest_edge y tet.nodes)) setup.mesh.tets)
+    (dec_All (λ tet. VolumeCertificate depth (corners x y tet.nodes)) (λ tet. dec_VolumeCertificate depth (corners x y tet.nodes)) setup.mesh.tets)
+    (dec_lt_ℤ (potential setup terms y) (potential setup terms x)))
+    (λ h. record { in_box = h.0; edges = h.1; certified = h.2; lower = h.3 }) (λ h. (h.in_box, h.edges, h.certified, h.lower))
+
+pub dec_IsAccepted : (setup : Setup) (terms : FrameTerms) (x direction : List V3) (half : ℕ) → Dec (IsAccepted setup terms x direction half)
+dec_IsAccepted setup terms x direction half =
+    dec_along
+    (dec_two
+    (dec_Any (λ d. ¬ (halved half d ≡ origin)) (λ d. dec_not (dec_same (halved half d) origin)) direction)
+    (dec_IsAllowed setup terms x (moved_by x direction half)))
+    (λ h. record { moves = h.0; allowed = h.1 }) (λ h. (h.moves, h.allowed))
+
+-- some halving is the least that is accepted, or none is accepted
+pub first_or_none : (setup : Setup) (terms : FrameTerms) (x direction : List V3) → ((half : ℕ) × IsFirstAccepted setup terms x direction half) ⊎ HasNoAccepted setup terms x direction
+first_or_none setup terms x direction =
+    elim (least_or_none (IsAccepted setup terms x direction) (dec_IsAccepted setup terms x direction) most_halvings) [
+      | inl found ↦ inl (found.0, record { few = found.1; accepted = found.2.holds; least = found.2.least })
+      | inr none ↦ inr none
+    ]
+
+-- there is a step, or there is none
+pub step_or_none : (setup : Setup) (terms : FrameTerms) (x : List V3) → HasStep setup terms x ⊎ HasNoStep setup terms x
+step_or_none setup terms x =
+    let direction = jacobi setup terms x in
+    elim (first_or_none setup terms x direction) [
+      | inl found ↦ inl (moved_by x direction found.0, record { half = found.0; first = found.1; moved = refl })
+      | inr none ↦ inr none
+    ]
+
+pub dec_IsAtRest : (setup : Setup) (tol : ℤ) (terms : FrameTerms) (x : List V3) → Dec (IsAtRest setup tol terms x)
+dec_IsAtRest setup tol terms x = dec_All (λ slope. pos (unsigned_abs slope) ≤ℤ tol) (λ slope. dec_le_ℤ (pos (unsigned_abs slope)) tol) (gradient setup terms x)

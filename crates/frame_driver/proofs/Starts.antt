@@ -1,0 +1,82 @@
+-- What a simulation is at the start.
+use Rattle.std.proofs.Common.{◌≡◌, ◌∙◌, ℕ, ◌^◌, ◌≤◌, ◌&&◌, ℤ, pos, ◌-ℤ◌, ◌≤ℤ◌, ◌<ℤ◌, unsigned_abs, List, [], ◌∷◌, true, length, refl, ap, sym, subst, arith, lit≤}
+use Rattle.std.specs.Prelude.{All, IsTrue, nat_le}
+use Rattle.std.specs.List.{list_all, zip}
+use Rattle.std.specs.Cmp.Derive.{both_true}
+use Rattle.std.proofs.lemmas.Bool.{and_parts, leb-true, le-leb}
+use Rattle.std.proofs.lemmas.Int.{ints}
+use Rattle.std.proofs.lemmas.List.{length-map}
+use Rattle.std.proofs.lemmas.Slice.Zip.{length-zip}
+use Rattle.std.proofs.lemmas.List.Elements.{All-weaker}
+use Rattle.whole_laws.proofs.Lists.{All-map_back}
+use Rattle.whole_laws.proofs.Order.{size_diff}
+use Rattle.space3.specs.declared.vectors.V3.{V3}
+use Rattle.space3.specs.declared.lists.Tet.{Tet}
+use Rattle.space3.specs.Vectors.{AtMost, Within, difference}
+use Rattle.space3.specs.Mesh.{rest_determinant}
+use Rattle.surface_mesh.specs.declared.setup.Setup.{Setup}
+use Rattle.surface_mesh.specs.Edges.{edges_of, has_edges_within, is_within}
+use Rattle.surface_mesh.specs.Setup.{IsSetup, rest_of}
+use Rattle.surface_mesh.specs.Sturdy.{IsSturdy, least_rest, longest_rest}
+use Rattle.surface_mesh.proofs.SetupFacts.{velocity_length}
+use Rattle.line_search.specs.Upright.{IsPose, longest_edge}
+use Rattle.frame_driver.specs.Paths.{first_before}
+
+-- ---- vectors
+-- a place is near
+pub place_is_near : (a : V3) → Within (2 ^ 20) a → Within 1114112 a
+place_is_near a h = record { x = each a.x h.x; y = each a.y h.y; z = each a.z h.z }
+  where
+    each : (a : ℤ) → AtMost (2 ^ 20) a → AtMost 1114112 a
+    each a h = record { bound = omega (arith, h.bound) }
+
+-- and so is a place less a velocity
+pub place_before_is_near : (a b : V3) → Within (2 ^ 20) a → Within 65536 b → Within 1114112 (difference a b)
+place_before_is_near a b h k = record { x = each a.x b.x h.x k.x; y = each a.y b.y h.y k.y; z = each a.z b.z h.z k.z }
+  where
+    each : (a b : ℤ) → AtMost (2 ^ 20) a → AtMost 65536 b → AtMost 1114112 (a -ℤ b)
+    each a b h k = record { bound = omega (arith, size_diff a b, h.bound, k.bound) }
+
+-- ---- the pose at the start
+-- what is within is within more
+within_more : (m n : ℕ) (v : V3) → m ≤ n → IsTrue (is_within m v) → IsTrue (is_within n v)
+within_more m n v l h =
+    let xyz = and_parts (nat_le (unsigned_abs v.x) m && nat_le (unsigned_abs v.y) m) (nat_le (unsigned_abs v.z) m) h in
+    let xy = and_parts (nat_le (unsigned_abs v.x) m) (nat_le (unsigned_abs v.y) m) xyz.0 in
+    both_true (both_true (each (unsigned_abs v.x) xy.0) (each (unsigned_abs v.y) xy.1)) (each (unsigned_abs v.z) xyz.1)
+  where
+    each : (a : ℕ) → nat_le a m ≡ true → nat_le a n ≡ true
+    each a e = le-leb a n (omega (arith, leb-true a m e))
+
+edges_more : (m n : ℕ) (places : List V3) (nodes : List ℕ) → m ≤ n → IsTrue (has_edges_within m places nodes) → IsTrue (has_edges_within n places nodes)
+edges_more m n places nodes l h = each (edges_of places nodes) h
+  where
+    each : (vs : List V3) → list_all (is_within m) vs ≡ true → list_all (is_within n) vs ≡ true
+    each [] e = refl
+    each (v ∷ vs) e =
+        let parts = and_parts (is_within m v) (list_all (is_within m) vs) e in
+        both_true (within_more m n v l parts.0) (each vs parts.1)
+
+positive : (rest : ℤ) → least_rest ≤ℤ rest → pos 0 <ℤ rest
+positive rest h = omega (arith, ints)
+
+-- sturdy bodies may stand at the mesh's places
+pub first_pose : (s : Setup) → IsSetup s → IsSturdy s → IsPose s s.mesh.places
+first_pose s built sturdy =
+    let Upright : Tet → Type 0 = λ tet. pos 0 <ℤ rest_determinant s.mesh.places tet.nodes in
+    let thick : All (λ tet. least_rest ≤ℤ rest_of s.mesh tet) s.mesh.tets =
+    All-map_back (λ rest. least_rest ≤ℤ rest) (rest_of s.mesh) s.mesh.tets (subst (All (λ rest. least_rest ≤ℤ rest)) (ap (λ (t : Setup). t.rest) built.built) sturdy.rest) in
+    record {
+      each = sym built.mesh_is_sound.placed;
+      upright = All-weaker (λ tet. least_rest ≤ℤ rest_of s.mesh tet) Upright (λ tet h. positive (rest_of s.mesh tet) h) s.mesh.tets thick;
+      edges = All-weaker (λ tet. IsTrue (has_edges_within longest_rest s.mesh.places tet.nodes)) (λ tet. IsTrue (has_edges_within longest_edge s.mesh.places tet.nodes))
+          (λ tet h. edges_more longest_rest longest_edge s.mesh.places tet.nodes (lit≤ tt) h) s.mesh.tets sturdy.edges;
+    }
+
+-- ---- the places before
+-- one per node
+pub length-first_before : (s : Setup) → IsSetup s → length (first_before s) ≡ length s.mesh.numbers
+length-first_before s built =
+    let placed : length s.mesh.numbers ≡ length s.mesh.places = built.mesh_is_sound.placed in
+    let moving : length s.velocity ≡ length s.mesh.numbers = velocity_length s built in
+    length-map (zip s.mesh.places s.velocity) (λ node. difference node.0 node.1) ∙ omega (arith, length-zip s.mesh.places s.velocity, placed, moving)

@@ -1,0 +1,44 @@
+-- A simulation between two frames.
+use Rattle.std.specs.Prelude.{◌≡◌, ℕ, ℤ, List, length, All}
+use Rattle.space3.specs.declared.vectors.V3.{V3}
+use Rattle.space3.specs.Vectors.{Within}
+use Rattle.surface_mesh.specs.declared.setup.Setup.{Setup}
+use Rattle.surface_mesh.specs.Setup.{IsSetup}
+use Rattle.surface_mesh.specs.Sturdy.{IsSturdy}
+use Rattle.line_search.specs.Upright.{IsPose, StaysUpright}
+use Rattle.frame_driver.specs.declared.end.FrameEnd.{FrameEnd}
+use Rattle.frame_driver.specs.Frames.{IsFrame, Follow, last_after}
+use Rattle.frame_driver.specs.Paths.{first_before}
+
+-- the bodies, the tolerance and budget of each frame, the places now, and those at the start of the last frame
+pub record SimState : Type 0 where
+  pub setup : Setup
+  pub tol : ℤ
+  pub budget : ℕ
+  pub places : List V3
+  pub before : List V3
+
+-- the start of a path
+abbrev pub start_of : Setup → ℤ → ℕ → SimState
+start_of setup tol budget =
+    record { setup = setup; tol = tol; budget = budget; places = setup.mesh.places; before = first_before setup }
+
+-- what a simulation keeps
+pub record IsSim (sim : SimState) : Type 0 where
+  pub built : IsSetup sim.setup
+  pub sturdy : IsSturdy sim.setup
+  pub pose : IsPose sim.setup sim.places
+  pub each_before : length sim.before ≡ length sim.setup.mesh.numbers
+  pub near : All (Within 1114112) sim.before
+
+-- one frame with this end led from the old state to the new one
+pub record Advances (end : FrameEnd) (old new : SimState) : Type 0 where
+  pub steps : List (List V3)
+  pub frame : IsFrame old.setup old.tol old.budget old.places old.before (record { steps = steps; end = end })
+  pub places : new.places ≡ last_after old.places steps
+  pub before : new.before ≡ old.places
+  pub setup : new.setup ≡ old.setup
+  pub tol : new.tol ≡ old.tol
+  pub budget : new.budget ≡ old.budget
+  -- at every fraction of every step each volume is positive
+  pub upright : Follow (StaysUpright old.setup) old.places steps

@@ -1,0 +1,25 @@
+//! Laws of paths. A law is a function that does nothing, whose contract is the law.
+ghost use Rattle.std.specs.Prelude.{◌≡◌, ℕ, ℤ, List, length};
+ghost use Rattle.space3.specs.declared.vectors.V3.{V3};
+ghost use Rattle.surface_mesh.specs.declared.setup.Setup.{Setup};
+ghost use Rattle.frame_driver.specs.Frames.{Frame};
+ghost use Rattle.frame_driver.specs.Paths.{FramesFrom, StayUprightFrom};
+
+/// From all places, after all places, there is a path of so many frames.
+pub fn there_is_a_path()
+    ensures { (setup : Setup) (tol : ℤ) (budget : ℕ) (now before : List V3) (count : ℕ) →
+        (frames : List Frame) × (length frames ≡ count) × FramesFrom setup tol budget now before frames }
+{}
+
+/// There is only one.
+pub fn one_path()
+    ensures { (setup : Setup) (tol : ℤ) (budget : ℕ) (now before : List V3) (a b : List Frame) →
+        length a ≡ length b → FramesFrom setup tol budget now before a → FramesFrom setup tol budget now before b →
+        a ≡ b }
+{}
+
+/// On each step of a path every tetrahedron's volume is positive at every fraction.
+pub fn paths_stay_upright()
+    ensures { (setup : Setup) (tol : ℤ) (budget : ℕ) (now before : List V3) (frames : List Frame) →
+        FramesFrom setup tol budget now before frames → StayUprightFrom setup now frames }
+{}

@@ -1,0 +1,98 @@
+//! A simulation, frame by frame.
+ghost use Rattle.std.specs.Prelude.{◌≡◌, length, IfOk, OnErr, OnOk};
+ghost use Rattle.surface_mesh.specs.Setup.{IsSetup};
+ghost use Rattle.surface_mesh.specs.Sturdy.{IsSturdy};
+ghost use Rattle.frame_driver.specs.Sims.{Advances, start_of};
+
+use crate::before::{list_of, places_before};
+use crate::end::FrameEnd;
+use crate::frame::descend;
+use potential_sum::Terms;
+use space3::{Places, V3};
+use std::alloc::{AllocError, Global};
+use std::marker::Model;
+use surface_mesh::Setup;
+
+/// Bodies on their way, between two frames.
+#[derive(Drop)]
+pub struct Sim {
+    setup: Setup,
+    tol: i64,
+    budget: u32,
+    places: Places,
+    before: Vec<V3>,
+}
+
+impl Model for Sim {
+    ghost use Rattle.frame_driver.specs.Sims.{SimState, IsSim};
+
+    ghost Value = { SimState };
+
+    ghost view = { λ s. record { setup = s.setup; tol = s.tol; budget = s.budget; places = s.places; before = s.before.items } };
+
+    ghost invariant = { λ s. IsSim (record { setup = s.setup; tol = s.tol; budget = s.budget; places = s.places; before = s.before.items }) };
+}
+
+impl Sim {
+    /// The start of a path: the mesh's places, and before them the mesh's places less the velocities. The setup has
+    /// no defect. A frame is at rest where no component of the gradient is above `tol` in absolute value, in grid
+    /// units times mass, and takes at most `budget` steps. Where memory is wanting, the setup is given up.
+    pub fn open(alloc: Global, setup: Setup, tol: i64, budget: u32) -> Result<Self, AllocError>
+        requires built { IsSetup setup }
+        requires sturdy { IsSturdy setup }
+        ensures { IfOk result (λ sim. sim ≡ start_of setup tol budget) }
+    {
+        let before = places_before(alloc, &setup.mesh.places, setup.velocity.items())?;
+        let places = setup.mesh.places.copy(alloc)?;
+        Ok(Sim {
+            setup,
+            tol,
+            budget,
+            places,
+            before,
+        })
+    }
+
+    /// Computes the next frame. Where memory is wanting, all stays as it was.
+    pub fn frame(&mut self, alloc: Global) -> Result<FrameEnd, AllocError>
+        ensures frame { IfOk result (λ end. Advances end self.old self.new) }
+        ensures unchanged { OnErr result (self.new ≡ self.old) }
+    {
+        let terms = Terms::open(alloc, &self.setup, &self.places, &self.before)?;
+        let (places, end) = descend(
+            alloc,
+            &self.setup,
+            &terms,
+            self.tol,
+            self.budget,
+            &self.places,
+        )?;
+        let before = list_of(alloc, &self.places)?;
+        self.places = places;
+        self.before = before;
+        Ok(end)
+    }
+
+    /// The places now, one per node.
+    pub fn places(&self) -> &Places
+        ensures value { result.now ≡ self.now.places }
+        ensures each { length result.now ≡ length self.now.setup.mesh.numbers }
+    {
+        &self.places
+    }
+
+    /// The places at the start of the last frame, one per node.
+    pub fn before(&self) -> &[V3]
+        ensures { result.now ≡ self.now.before }
+    {
+        self.before.as_slice()
+    }
+
+    /// The bodies.
+    pub fn setup(&self) -> &Setup
+        ensures value { result.now ≡ self.now.setup }
+        ensures built { IsSetup result.now }
+    {
+        &self.setup
+    }
+}
