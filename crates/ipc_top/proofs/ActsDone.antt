@@ -101,3 +101,16 @@ nothing_done acts w = stops_first acts (record { files = refl; more = []; writte
 pub lacks_memory : {T : Type 0} (acts : List Act) (result : Result T Stop) (w : World) → IsErrAnd result (λ e. e ≡ stops.Memory) → Does acts result w w
 lacks_memory acts (Ok x) w h = absurd h
 lacks_memory acts (Err e) w h = subst (λ (stop : Stop). Stops stop acts w w) (sym h) (nothing_done acts w)
+
+-- the same acts, given otherwise
+pub did_same : {old new : World} (xs ys : List Act) → xs ≡ ys → Did xs old new → Did ys old new
+did_same {old} {new} xs ys e did = subst (λ (acts : List Act). Did acts old new) e did
+
+pub stops_same : {stop : Stop} {old new : World} (xs ys : List Act) → xs ≡ ys → Stops stop xs old new → Stops stop ys old new
+stops_same {stop} {old} {new} xs ys e stops = subst (λ (acts : List Act). Stops stop acts old new) e stops
+
+pub same_say : {line line' : List ℕ} → line ≡ line' → Say line ∷ [] ≡ Say line' ∷ []
+same_say e = λ i. Say (e i) ∷ []
+
+pub same_put : {name name' text text' : List ℕ} → name ≡ name' → text ≡ text' → Put name text ∷ [] ≡ Put name' text' ∷ []
+same_put e h = λ i. Put (e i) (h i) ∷ []

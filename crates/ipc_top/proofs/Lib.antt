@@ -1,4 +1,10 @@
 pub mod ActsDone
 pub mod Causes
+pub mod FramesDone
+pub mod JobRuns
+pub mod Moving
 pub mod Outcomes
 pub mod RunsOn
+pub mod SceneRuns
+pub mod SomeFiles
+pub mod Upright

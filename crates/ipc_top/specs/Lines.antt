@@ -1,8 +1,17 @@
 -- The lines of the console. A text is a list of bytes.
-use Rattle.std.specs.Prelude.{◌++◌, ◌||◌, ℕ, List, map, codes, decimal, nat_lt, if◌then◌else◌}
+use Rattle.std.specs.Prelude.{◌++◌, ◌||◌, ℕ, List, map, codes, decimal, nat_lt, slice_get, slice_index, if◌then◌else◌}
+use Rattle.std.specs.Option.{option_map_or}
+use Rattle.std.specs.Fmt.{signed_decimal}
+use Rattle.space3.specs.declared.mesh.Mesh.{Mesh}
+use Rattle.mesh_check.specs.declared.defects.Defect.{Defect}
+use Rattle.mesh_check.specs.declared.defects.Defect.TheVariants as defects
+use Rattle.scene_toml.specs.declared.refusal.SceneErr.{SceneErr}
+use Rattle.scene_toml.specs.declared.refusal.SceneErr.TheVariants as scenes
+use Rattle.frame_driver.specs.declared.end.FrameEnd.{FrameEnd}
+use Rattle.frame_driver.specs.declared.end.FrameEnd.TheVariants as ends
 
 abbrev pub usage_line : List ℕ
-usage_line = codes "usage: ipc check DIGITS MESH OUT\n"
+usage_line = codes "usage: ipc check DIGITS MESH OUT | run SCENE\n"
 
 -- a mesh of so many nodes and tetrahedra is accepted
 abbrev pub accepted_line : (nodes tets : ℕ) → List ℕ
@@ -14,10 +23,6 @@ start_line = codes "frame 0 start\n"
 
 abbrev pub mesh_refused_line : List ℕ
 mesh_refused_line = codes "mesh refused: first form\n"
-
--- the tetrahedron of this number isn't positive
-abbrev pub not_positive_line : (number : ℕ) → List ℕ
-not_positive_line number = codes "geometry refused: not positive " ++ decimal number ++ codes "\n"
 
 -- a byte below 32 or above 126 is printed as `?`
 abbrev pub printed_byte : ℕ → ℕ
@@ -36,3 +41,35 @@ write_fault_line name = codes "write fault " ++ printed name ++ codes "\n"
 -- so many bytes of a file were taken, one more than its limit
 abbrev pub too_long_line : (name : List ℕ) (taken : ℕ) → List ℕ
 too_long_line name taken = codes "too long " ++ printed name ++ codes " " ++ decimal taken ++ codes "\n"
+
+-- a scene is refused
+abbrev pub scene_refused_line : SceneErr → List ℕ
+scene_refused_line scenes.NotToml = codes "scene refused: not toml\n"
+scene_refused_line (scenes.UnknownKey key) = codes "scene refused: unknown key " ++ printed key ++ codes "\n"
+scene_refused_line (scenes.Missing key) = codes "scene refused: missing key " ++ printed key ++ codes "\n"
+scene_refused_line (scenes.WrongType key) = codes "scene refused: wrong type " ++ printed key ++ codes "\n"
+scene_refused_line (scenes.OutOfRange key value) =
+    codes "scene refused: out of range " ++ printed key ++ codes " " ++ signed_decimal value ++ codes "\n"
+
+-- the number in the file of a tetrahedron, by its position
+abbrev pub tet_number : Mesh → ℕ → ℕ
+tet_number mesh tet = option_map_or (λ t. t.number) (slice_get mesh.tets tet) 0
+
+-- a mesh is refused for a defect
+abbrev pub defect_line : Mesh → Defect → List ℕ
+defect_line mesh (defects.NotPositive tet) =
+    codes "geometry refused: not positive " ++ decimal (tet_number mesh tet) ++ codes "\n"
+defect_line mesh (defects.Thin tet) = codes "geometry refused: thin " ++ decimal (tet_number mesh tet) ++ codes "\n"
+defect_line mesh (defects.Long tet) = codes "geometry refused: long " ++ decimal (tet_number mesh tet) ++ codes "\n"
+defect_line mesh (defects.TooHeavy node) =
+    codes "geometry refused: too heavy " ++ decimal (slice_index mesh.numbers node) ++ codes "\n"
+
+-- how a frame ended, and after how many steps
+abbrev pub end_words : FrameEnd → List ℕ
+end_words (ends.Converged steps) = codes "converged " ++ decimal steps
+end_words (ends.Stalled steps) = codes "stalled " ++ decimal steps
+end_words (ends.Budget steps) = codes "budget " ++ decimal steps
+
+-- a frame is written
+abbrev pub frame_line : (frame : ℕ) → FrameEnd → List ℕ
+frame_line frame end = codes "frame " ++ decimal frame ++ codes " " ++ end_words end ++ codes "\n"

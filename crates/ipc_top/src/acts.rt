@@ -1,17 +1,13 @@
 //! The acts of a run, each done whole or stopped.
-ghost use Rattle.std.specs.Prelude.{◌≡◌, ◌∷◌, [], ◌≤◌, ◌+◌, length, IfOk, IfSome, IfNone, option_map};
+ghost use Rattle.std.specs.Prelude.{◌≡◌, ◌∷◌, [], ◌≤◌, ◌<◌, ◌+◌, ◌^◌, length, IfOk, IfSome, IfNone, option_map};
 ghost use Rattle.std.specs.FinMap.{get};
 ghost use Rattle.shelf_io.specs.Shelf.{ShelfState};
 ghost use Rattle.ipc_top.specs.Acts.{Take, Put, Say, Does, world};
-ghost use Rattle.ipc_top.specs.Orders.{mesh_limit};
 ghost use Rattle.ipc_top.specs.Ends.{IsTaken};
 
 use crate::lines::{read_fault_line, write_fault_line};
 use shelf_io::{ReadErr, Shelf, Sink, read_all, say_all, write_all};
 use std::alloc::{AllocError, Global};
-
-/// The most bytes that a mesh file may have.
-pub const MESH_LIMIT: u64 = 268_435_456;
 
 /// Why a run ended before its last act.
 #[derive(Clone, Copy, Debug, PartialEq, Eq)]
@@ -69,21 +65,24 @@ pub fn put<S: Shelf, C: Sink>(
     }
 }
 
-/// Takes a mesh file, or gives None where it is longer than the limit. Where the shelf fails, it says so.
-pub fn take_mesh<S: Shelf, C: Sink>(
+/// Takes a file, or gives None where it has more than `limit` bytes. Where the shelf fails, it says so. Condition:
+/// `limit` is below 2^63.
+pub fn take<S: Shelf, C: Sink>(
     alloc: Global,
     shelf: &mut S,
     console: &mut C,
     name: &str,
+    limit: u64,
 ) -> Result<Option<Vec<u8>>, Stop>
+    requires { limit < 2 ^ 63 }
     ensures does { Does (Take name.now ∷ []) result
         (world (S.state shelf.old) (C.state console.old)) (world (S.state shelf.new) (C.state console.new)) }
-    ensures told { IfOk result (λ taken. IfSome (S.state shelf.old).files (λ files. IsTaken (get files name.now) (option_map (λ v. v.items) taken))) }
-    ensures within { IfOk result (λ taken. IfSome taken (λ v. length v.items ≤ mesh_limit)) }
-    ensures too_long { IfOk result (λ taken. IfNone taken ((S.state shelf.new).taken ≡ mesh_limit + 1)) }
+    ensures told { IfOk result (λ taken. IfSome (S.state shelf.old).files (λ files. IsTaken limit (get files name.now) (option_map (λ v. v.items) taken))) }
+    ensures within { IfOk result (λ taken. IfSome taken (λ v. length v.items ≤ limit)) }
+    ensures too_long { IfOk result (λ taken. IfNone taken ((S.state shelf.new).taken ≡ limit + 1)) }
 {
     let line = read_fault_line(alloc, name)?;
-    match read_all(alloc, shelf, name, MESH_LIMIT) {
+    match read_all(alloc, shelf, name, limit) {
         Ok(bytes) => Ok(Some(bytes)),
         Err(ReadErr::TooLong { .. }) => Ok(None),
         Err(ReadErr::Memory) => Err(Stop::Memory),

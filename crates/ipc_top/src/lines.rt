@@ -1,12 +1,16 @@
 //! The lines of the console.
-ghost use Rattle.std.specs.Prelude.{◌≡◌, ◌++◌, codes, decimal, IfOk, OnOk};
+ghost use Rattle.std.specs.Prelude.{◌≡◌, ◌++◌, codes, decimal, slice_index, IfOk, OnOk};
+ghost use Rattle.std.specs.Fmt.{signed_decimal};
 ghost use Rattle.ipc_top.specs.Lines as lines;
 
 use itoa::Buffer;
+use mesh_check::Defect;
+use scene_toml::SceneErr;
+use space3::Mesh;
 use std::alloc::{AllocError, Global};
 
 /// How the program is called.
-pub const USAGE_LINE: &[u8] = b"usage: ipc check DIGITS MESH OUT\n";
+pub const USAGE_LINE: &[u8] = b"usage: ipc check DIGITS MESH OUT | run SCENE\n";
 
 /// Frame 0 is written.
 pub const START_LINE: &[u8] = b"frame 0 start\n";
@@ -30,8 +34,16 @@ fn add_name(line: &mut Vec<u8>, name: &str) -> Result<(), AllocError>
     Ok(())
 }
 
-fn add_number(line: &mut Vec<u8>, n: u64) -> Result<(), AllocError>
+/// Adds a number in decimal digits.
+pub fn add_number(line: &mut Vec<u8>, n: u64) -> Result<(), AllocError>
     ensures { OnOk result (line.new.items ≡ line.old.items ++ decimal n) }
+{
+    let mut digits = Buffer::new();
+    line.extend_from_slice(digits.format(n).as_bytes())
+}
+
+fn add_signed(line: &mut Vec<u8>, n: i64) -> Result<(), AllocError>
+    ensures { OnOk result (line.new.items ≡ line.old.items ++ signed_decimal n) }
 {
     let mut digits = Buffer::new();
     line.extend_from_slice(digits.format(n).as_bytes())
@@ -85,12 +97,87 @@ pub fn accepted_line(alloc: Global, nodes: u64, tets: u64) -> Result<Vec<u8>, Al
     Ok(line)
 }
 
-/// The line of a tetrahedron that isn't positive, by its number.
-pub fn not_positive_line(alloc: Global, number: u32) -> Result<Vec<u8>, AllocError>
-    ensures { IfOk result (λ line. line.items ≡ lines.not_positive_line number) }
+// A line that ends in a number.
+fn numbered_line(alloc: Global, what: &[u8], n: u64) -> Result<Vec<u8>, AllocError>
+    ensures { IfOk result (λ line. line.items ≡ what.now ++ decimal n ++ codes "\n") }
 {
-    let mut line = Vec::from_slice(alloc, b"geometry refused: not positive ")?;
-    add_number(&mut line, u64::from(number))?;
+    let mut line = Vec::from_slice(alloc, what)?;
+    add_number(&mut line, n)?;
     line.extend_from_slice(b"\n")?;
     Ok(line)
+}
+
+// The number in the file of a tetrahedron, by its position.
+fn tet_number(mesh: &Mesh, tet: u32) -> u32
+    ensures { result ≡ lines.tet_number mesh.now tet }
+{
+    match mesh.tets.items().get(tet as usize) {
+        Some(tet) => tet.number,
+        None => 0,
+    }
+}
+
+// The number in the file of a node, by its position.
+fn node_number(mesh: &Mesh, node: u32) -> u32
+    ensures { result ≡ slice_index mesh.now.numbers node }
+{
+    match mesh.numbers.items().get(node as usize) {
+        Some(number) => *number,
+        None => 0,
+    }
+}
+
+/// The line of a mesh that is refused for a defect. It names a tetrahedron or a node by its number in the file.
+pub fn defect_line(alloc: Global, mesh: &Mesh, defect: Defect) -> Result<Vec<u8>, AllocError>
+    ensures { IfOk result (λ line. line.items ≡ lines.defect_line mesh.now defect) }
+{
+    match defect {
+        Defect::NotPositive { tet } => numbered_line(
+            alloc,
+            b"geometry refused: not positive ",
+            u64::from(tet_number(mesh, tet)),
+        ),
+        Defect::Thin { tet } => numbered_line(
+            alloc,
+            b"geometry refused: thin ",
+            u64::from(tet_number(mesh, tet)),
+        ),
+        Defect::Long { tet } => numbered_line(
+            alloc,
+            b"geometry refused: long ",
+            u64::from(tet_number(mesh, tet)),
+        ),
+        Defect::TooHeavy { node } => numbered_line(
+            alloc,
+            b"geometry refused: too heavy ",
+            u64::from(node_number(mesh, node)),
+        ),
+    }
+}
+
+// The line of a value that is out of range.
+fn range_line(alloc: Global, key: &str, value: i64) -> Result<Vec<u8>, AllocError>
+    ensures { IfOk result (λ line. line.items ≡ codes "scene refused: out of range " ++ lines.printed key.now ++ codes " " ++ signed_decimal value ++ codes "\n") }
+{
+    let mut line = Vec::from_slice(alloc, b"scene refused: out of range ")?;
+    add_name(&mut line, key)?;
+    line.extend_from_slice(b" ")?;
+    add_signed(&mut line, value)?;
+    line.extend_from_slice(b"\n")?;
+    Ok(line)
+}
+
+/// The line of a scene that is refused.
+pub fn scene_refused_line(alloc: Global, err: &SceneErr) -> Result<Vec<u8>, AllocError>
+    ensures { IfOk result (λ line. line.items ≡ lines.scene_refused_line err.now) }
+{
+    match err {
+        SceneErr::NotToml => Vec::from_slice(alloc, b"scene refused: not toml\n"),
+        SceneErr::UnknownKey { key } => {
+            named_line(alloc, b"scene refused: unknown key ", key.text())
+        }
+        SceneErr::Missing { key } => named_line(alloc, b"scene refused: missing key ", key.text()),
+        SceneErr::WrongType { key } => named_line(alloc, b"scene refused: wrong type ", key.text()),
+        SceneErr::OutOfRange { key, value } => range_line(alloc, key.text(), *value),
+    }
 }

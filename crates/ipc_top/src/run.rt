@@ -1,30 +1,23 @@
 //! The top call.
-ghost use Rattle.std.specs.Prelude.{◌≡◌, ◌∷◌, [], ◌+◌, List, ℕ, map, Ok, None, string_bytes};
-ghost use Rattle.shelf_io.specs.Shelf.{Files, ShelfState, Rose};
+ghost use Rattle.std.specs.Prelude.{◌≡◌, ◌⊎◌, ◌∷◌, [], ◌+◌, List, ℕ, map, Ok, None, string_bytes};
+ghost use Rattle.shelf_io.specs.Shelf.{Files, Rose};
 ghost use Rattle.ipc_top.specs.Acts.{world};
-ghost use Rattle.ipc_top.specs.Orders.{Run, command_of, mesh_limit, usage, CallsFor};
-ghost use Rattle.ipc_top.specs.Ends.{IsOneOf, IsStatus, IsInput, Runs, Obeys, Ends, ReadFault, WriteFault, CompletesCheck, status_of};
+ghost use Rattle.ipc_top.specs.Orders.{Run, command_of, mesh_limit, scene_limit, CallsFor};
+ghost use Rattle.ipc_top.specs.Ends.{IsOneOf, IsStatus, IsInput, Obeys, Ends, Completes, StaysUpright, status_of};
 
-use crate::acts::{Stop, say};
+use crate::acts::Stop;
 use crate::check::check;
-use crate::lines::USAGE_LINE;
+use crate::refusals::refuse_words;
+use crate::scene::run_scene;
 use crate::words::{Command, command_of};
 use shelf_io::{Shelf, Sink};
 use std::alloc::Global;
 
 /// A law: words and files call for at most one run.
 pub fn one_run()
-    ensures { (words : List (List ℕ)) (files : Files) (a b : Run) → CallsFor words files a → CallsFor words files b → a ≡ b }
+    ensures { (words : List (List ℕ)) (scenes meshes : Files) (a b : Run) →
+        CallsFor words scenes meshes a → CallsFor words scenes meshes b → a ≡ b }
 {}
-
-// Says how the program is called.
-fn refuse_words<C: Sink>(console: &mut C) -> Result<u8, Stop>
-    ensures { (s : ShelfState) → Runs usage result
-        (world s (C.state console.old)) (world s (C.state console.new)) }
-{
-    say(console, USAGE_LINE)?;
-    Ok(2)
-}
 
 fn run<S: Shelf, C: Sink>(
     alloc: Global,
@@ -33,14 +26,16 @@ fn run<S: Shelf, C: Sink>(
     console: &mut C,
 ) -> Result<u8, Stop>
     ensures told { (files : Files) → IsInput (map string_bytes words.now) (S.state shelf.old).files files
-        → Obeys (map string_bytes words.now) files result
+        → Obeys (map string_bytes words.now) files files result
         (world (S.state shelf.old) (C.state console.old)) (world (S.state shelf.new) (C.state console.new)) }
-    ensures some { (files : Files) × Obeys (map string_bytes words.now) files result
+    ensures some { (scenes : Files) × (meshes : Files) × Obeys (map string_bytes words.now) scenes meshes result
         (world (S.state shelf.old) (C.state console.old)) (world (S.state shelf.new) (C.state console.new)) }
-    ensures too_long { result ≡ Ok 10 → (S.state shelf.new).taken ≡ mesh_limit + 1 }
+    ensures too_long { result ≡ Ok 10
+        → ((S.state shelf.new).taken ≡ scene_limit + 1) ⊎ ((S.state shelf.new).taken ≡ mesh_limit + 1) }
 {
     match command_of(words) {
         Some(Command::Check { mesh, out }) => check(alloc, shelf, console, mesh, out),
+        Some(Command::RunScene { scene }) => run_scene(alloc, shelf, console, scene),
         None => refuse_words(console),
     }
 }
@@ -60,20 +55,22 @@ fn status(ended: Result<u8, Stop>) -> u8
 
 /// Does all that the program does, and answers its status. `words` are those after the program's name.
 ///
-/// The one command today is `check 0 MESH OUT`: it reads the mesh of a file in whole grid units, and writes its
-/// frame 0 to the file `OUT_0000.msh`.
+/// `check 0 MESH OUT` reads the mesh of a file in whole grid units, and writes its frame 0 to the file `OUT_0000.msh`.
+/// `run SCENE` reads the scene of a file and its mesh, and writes frame 0 and the frames that follow.
 ///
 /// | status | comes |
 /// |---|---|
-/// | 0 | frame 0 was written |
+/// | 0 | all frames are written, and each that follows frame 0 converged |
+/// | 1 | all frames are written, and some stalled or spent its budget |
 /// | 2 | the words are no command |
-/// | 3 | the shelf failed at the mesh file, or has none of that name |
-/// | 4 | the shelf failed at the frame's file |
+/// | 3 | the shelf failed at a file that was to be read, or has none of that name |
+/// | 4 | the shelf failed at a frame's file |
+/// | 5 | the scene is refused |
 /// | 6 | the mesh text isn't in the first form |
-/// | 7 | a tetrahedron isn't positive |
+/// | 7 | the mesh has a defect: a tetrahedron that isn't positive, is thin or long, or a node that is too heavy |
 /// | 8 | memory was wanting |
 /// | 9 | the console failed |
-/// | 10 | the mesh file has more than 268435456 bytes |
+/// | 10 | the scene file has more than 1048576 bytes, or the mesh file more than 268435456 |
 pub fn ipc_run<S: Shelf, C: Sink>(
     alloc: Global,
     words: &[String],
@@ -82,27 +79,28 @@ pub fn ipc_run<S: Shelf, C: Sink>(
 ) -> u8
     // Where the files are told, or the words call for none: what they call for was done, or was stopped.
     ensures told { (files : Files) → IsInput (map string_bytes words.now) (S.state shelf.old).files files
-        → Ends (map string_bytes words.now) files result
+        → Ends (map string_bytes words.now) files files result
         (world (S.state shelf.old) (C.state console.old)) (world (S.state shelf.new) (C.state console.new)) }
     // In any case it ended as the words and some files call for.
-    ensures some { (files : Files) × Ends (map string_bytes words.now) files result
+    ensures some { (scenes : Files) × (meshes : Files) × Ends (map string_bytes words.now) scenes meshes result
         (world (S.state shelf.old) (C.state console.old)) (world (S.state shelf.new) (C.state console.new)) }
     // There are no other statuses.
     ensures answers { IsStatus result }
     // 2 comes exactly where the words are no command, unless memory was wanting or the console failed.
     ensures usage { result ≡ 2 → command_of (map string_bytes words.now) ≡ None }
     ensures no_command { command_of (map string_bytes words.now) ≡ None → IsOneOf (2 ∷ 8 ∷ 9 ∷ []) result }
-    // The causes of the statuses that stop a run.
-    ensures read { result ≡ 3 → ReadFault (command_of (map string_bytes words.now))
-        (world (S.state shelf.old) (C.state console.old)) (world (S.state shelf.new) (C.state console.new)) }
-    ensures write { result ≡ 4 → WriteFault (command_of (map string_bytes words.now))
-        (world (S.state shelf.old) (C.state console.old)) (world (S.state shelf.new) (C.state console.new)) }
+    // The causes of the statuses that stop a run: a device failed in this call.
+    ensures read { result ≡ 3 → Rose (S.state shelf.old).read_faults (S.state shelf.new).read_faults }
+    ensures write { result ≡ 4 → Rose (S.state shelf.old).write_faults (S.state shelf.new).write_faults }
     ensures console { result ≡ 9 → Rose (C.state console.old).faults (C.state console.new).faults }
     // 10 comes only where so many bytes were taken.
-    ensures too_long { result ≡ 10 → (S.state shelf.new).taken ≡ mesh_limit + 1 }
-    // A check of a good mesh is done whole.
-    ensures complete { CompletesCheck (map string_bytes words.now) result
+    ensures too_long { result ≡ 10
+        → ((S.state shelf.new).taken ≡ scene_limit + 1) ⊎ ((S.state shelf.new).taken ≡ mesh_limit + 1) }
+    // Where nothing fails and memory is enough, what words and files call for is done whole.
+    ensures complete { Completes (map string_bytes words.now) result
         (world (S.state shelf.old) (C.state console.old)) (world (S.state shelf.new) (C.state console.new)) }
+    // In whatever words and files call for, every volume is positive at the start and at every fraction of every step.
+    ensures upright { (scenes meshes : Files) → StaysUpright (map string_bytes words.now) scenes meshes }
 {
     status(run(alloc, words, shelf, console))
 }

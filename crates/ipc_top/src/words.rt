@@ -5,7 +5,10 @@ ghost use Rattle.ipc_top.specs.Orders.{command_of};
 
 /// A command: what it reads, and the name under which it writes frames.
 pub enum Command<'a> {
+    /// To check the mesh of a file, and to write it as frame 0.
     Check { mesh: &'a str, out: &'a str },
+    /// To run the scene of a file.
+    RunScene { scene: &'a str },
 }
 
 /// The command that the words are, if they are one.
@@ -19,6 +22,9 @@ pub fn command_of(words: &[String]) -> Option<Command<'_>>
                 out: out.as_str(),
             })
         }
+        [name, scene] if name.as_str() == "run" => Some(Command::RunScene {
+            scene: scene.as_str(),
+        }),
         _ => None,
     }
 }
