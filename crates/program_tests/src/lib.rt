@@ -1,0 +1,2 @@
+//! Tests of the whole program over files and console in memory.
+#![tactic(auto)]
