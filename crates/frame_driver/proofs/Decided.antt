@@ -3,7 +3,7 @@ use Rattle.std.proofs.Common.{◌≡◌, ℕ, zero, suc, ◌<◌, ◌≤◌, ℤ
 use Rattle.std.specs.Prelude.{All, Any, IsTrue}
 use Rattle.std.proofs.lemmas.Int.{ints, by_lt_z}
 use Rattle.std.proofs.lemmas.Bool.{cases_lt}
-use Rattle.whole_laws.proofs.Lists.{all_or_any}
+use Rattle.list_laws.proofs.Elements.{all_or_any}
 
 -- what follows from a decided fact and has it follow is decided too
 pub dec_along : {P Q : Type 0} → Dec P → (P → Q) → (Q → P) → Dec Q

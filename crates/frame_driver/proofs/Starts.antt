@@ -8,7 +8,7 @@ use Rattle.std.proofs.lemmas.Int.{ints}
 use Rattle.std.proofs.lemmas.List.{length-map}
 use Rattle.std.proofs.lemmas.Slice.Zip.{length-zip}
 use Rattle.std.proofs.lemmas.List.Elements.{All-weaker}
-use Rattle.whole_laws.proofs.Lists.{All-map_back}
+use Rattle.list_laws.proofs.Elements.{All-map_back}
 use Rattle.whole_laws.proofs.Order.{size_diff}
 use Rattle.space3.specs.declared.vectors.V3.{V3}
 use Rattle.space3.specs.declared.lists.Tet.{Tet}

@@ -5,7 +5,7 @@ use Rattle.std.specs.Option.{option_or}
 use Rattle.std.proofs.lemmas.Int.{ints}
 use Rattle.std.proofs.Common.{arith}
 use Rattle.std.proofs.lemmas.List.Elements.{All-weaker}
-use Rattle.whole_laws.proofs.Lists.{All-map_back}
+use Rattle.list_laws.proofs.Elements.{All-map_back}
 use Rattle.space3.specs.declared.mesh.Mesh.{Mesh}
 use Rattle.surface_mesh.specs.declared.setup.Setup.{Setup}
 use Rattle.surface_mesh.specs.declared.materials.Numbers.{Numbers}

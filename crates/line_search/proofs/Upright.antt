@@ -1,12 +1,12 @@
 -- What an allowed step keeps.
 use Rattle.std.proofs.Common.{◌≡◌, ◌<ℤ◌, ℕ, pos, List, [], length, map}
 use Rattle.std.proofs.lemmas.List.Elements.{All-nil, All-map}
-use Rattle.whole_laws.proofs.Lists.{All-map_back}
+use Rattle.list_laws.proofs.Elements.{All-map_back}
 use Rattle.space3.specs.declared.vectors.V3.{V3}
 use Rattle.space3.specs.declared.lists.Tet.{Tet}
 use Rattle.space3.specs.Mesh.{rest_determinant}
 use Rattle.safe_motion.specs.Certificates.{PairCertificate, VolumeCertificate, volume_at}
-use Rattle.safe_motion.specs.Safety.{Parts, SafeMotion, corners, node_moves}
+use Rattle.safe_motion.specs.Safety.{PartPair, SafeMotion, corners, node_moves}
 use Rattle.safe_motion.proofs.Certified.{certified_safe}
 use Rattle.safe_motion.proofs.Ends.{safe_end}
 use Rattle.surface_mesh.specs.declared.setup.Setup.{Setup}
@@ -21,7 +21,7 @@ nodes_of s = map (λ tet. tet.nodes) s.mesh.tets
 -- an allowed step is safe, where no pair is listed
 safe : (s : Setup) (terms : FrameTerms) (x y : List V3) → IsAllowed s terms x y → SafeMotion [] (nodes_of s) x y
 safe s terms x y a = certified_safe depth [] (nodes_of s) x y (record {
-  pairs_apart = All-nil (λ (pair : Parts). PairCertificate depth (node_moves x y pair.left) (node_moves x y pair.right));
+  pairs_apart = All-nil (λ (pair : PartPair). PairCertificate depth (node_moves x y pair.left) (node_moves x y pair.right));
   tets_upright = All-map (λ (nodes : List ℕ). VolumeCertificate depth (corners x y nodes)) (λ (tet : Tet). tet.nodes) s.mesh.tets a.certified;
 })
 

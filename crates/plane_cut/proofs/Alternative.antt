@@ -1,5 +1,5 @@
 -- Two lists of points meet exactly where no plane serves all their differences.
-use Rattle.std.proofs.Common.{◌≡◌, ℕ, ◌+◌, ◌*◌, ◌<◌, ◌≤◌, ◌^◌, ℤ, pos, negsuc, ◌+ℤ◌, ◌-ℤ◌, ◌*ℤ◌, ◌<ℤ◌, List, [], ◌∷◌, ◌++◌, ◌⊎◌, inl, inr, length, refl, sym, ◌∙◌, ap, subst, arith, unsigned_abs, map, IsTrue}
+use Rattle.std.proofs.Common.{◌≡◌, ℕ, ◌+◌, ◌*◌, ◌<◌, ◌≤◌, ◌^◌, ℤ, pos, negsuc, ◌+ℤ◌, ◌-ℤ◌, ◌*ℤ◌, ◌<ℤ◌, List, [], ◌∷◌, ◌++◌, ◌⊎◌, inl, inr, length, refl, sym, ◌∙◌, ap, subst, arith, unsigned_abs, IsTrue}
 use Rattle.std.proofs.lemmas.Int.{ints}
 use Rattle.std.specs.Prelude.{◌↔◌}
 use Rattle.std.proofs.Common.{take, set, get_or, append_assoc, Bool, true, false, not}
@@ -8,14 +8,16 @@ use Rattle.std.proofs.lemmas.List.{take_more, map-append}
 use Rattle.std.specs.List.{All, sum}
 use Rattle.std.proofs.lemmas.List.Elements.{All-nil, All-cons, All-head, All-tail, All-append, All-map, All-weaker}
 use Rattle.space3.specs.declared.vectors.V3.{V3}
-use Rattle.space3.specs.Vectors.{sum_of, difference, dot_product, Within}
-use Rattle.safe_motion.specs.Meeting.{origin, weighted_sum, Meets, Separates}
+use Rattle.space3.specs.Vectors.{origin, sum_of, difference, dot_product, Within}
+use Rattle.space3.specs.Weights.{weighted_sum}
+use Rattle.safe_motion.specs.Meeting.{Meets, Separates}
+use Rattle.list_laws.proofs.Elements.{All-map_back, All-append_left, All-append_right}
 use Rattle.whole_laws.proofs.Ring.{ring, v, ◌⊕◌, ◌⊗◌}
 use Rattle.whole_laws.proofs.Order.{size_diff}
 use Rattle.plane_cut.specs.Planes.{HasPlane}
 use Rattle.plane_cut.specs.Differences.{differences, differences_from}
 use Rattle.plane_cut.proofs.Linear.{mixed, same_vector}
-use Rattle.plane_cut.proofs.Elimination.{plane_or_zero, All-left, All-right}
+use Rattle.plane_cut.proofs.Elimination.{plane_or_zero}
 use Rattle.plane_cut.proofs.Weights.{mixed_weights, length-mixed, sum-mixed, weighted-mixed, some_mixed, IsOne, each_one}
 use Rattle.safe_motion.proofs.Separation.{meeting_excludes_separation}
 
@@ -26,15 +28,11 @@ All-differences P (a ∷ xs) ys h =
     All-append P (differences_from a ys) (differences xs ys) (All-map P (difference a) ys (All-head (λ a. All (λ b. P (difference a b)) ys) a xs h))
     (All-differences P xs ys (All-tail (λ a. All (λ b. P (difference a b)) ys) a xs h))
 
-All-unmap : (P : V3 → Type 0) (f : V3 → V3) (ys : List V3) → All P (map f ys) → All (λ b. P (f b)) ys
-All-unmap P f [] h = All-nil (λ b. P (f b))
-All-unmap P f (b ∷ ys) h = All-cons (λ b. P (f b)) b ys (All-head P (f b) (map f ys) h) (All-unmap P f ys (All-tail P (f b) (map f ys) h))
-
 pub differences-All : (P : V3 → Type 0) (xs ys : List V3) → All P (differences xs ys) → All (λ a. All (λ b. P (difference a b)) ys) xs
 differences-All P [] ys h = All-nil (λ a. All (λ b. P (difference a b)) ys)
 differences-All P (a ∷ xs) ys h =
-    All-cons (λ a. All (λ b. P (difference a b)) ys) a xs (All-unmap P (difference a) ys (All-left P (differences_from a ys) (differences xs ys) h))
-    (differences-All P xs ys (All-right P (differences_from a ys) (differences xs ys) h))
+    All-cons (λ a. All (λ b. P (difference a b)) ys) a xs (All-map_back P (difference a) ys (All-append_left P (differences_from a ys) (differences xs ys) h))
+    (differences-All P xs ys (All-append_right P (differences_from a ys) (differences xs ys) h))
 
 -- ---- sums of differences, with weights on each list
 record IsMeetingSum (xs ys : List V3) (z : V3) : Type 0 where

@@ -6,8 +6,8 @@ use Rattle.std.proofs.lemmas.Int.{ints}
 use Rattle.std.specs.List.{All}
 use Rattle.std.proofs.lemmas.List.Elements.{All-nil, All-cons, All-head, All-tail, All-append, All-weaker}
 use Rattle.space3.specs.declared.vectors.V3.{V3}
-use Rattle.space3.specs.Vectors.{dot_product}
-use Rattle.safe_motion.specs.Meeting.{origin}
+use Rattle.space3.specs.Vectors.{origin, dot_product}
+use Rattle.list_laws.proofs.Elements.{All-append_left, All-append_right}
 use Rattle.whole_laws.proofs.Ring.{ring, v, num, neg, ◌⊕◌, ◌⊗◌}
 use Rattle.plane_cut.specs.Planes.{IsPlane, HasPlane}
 use Rattle.plane_cut.proofs.Linear.{mixed, dot-mixed, same_vector, Axis, axis_x, axis_y, axis_z}
@@ -33,19 +33,11 @@ gather_one M P r m f = record {
   serves = λ n h. f n (All-head (λ s. pos 0 <ℤ dot_product n s) r [] h);
 }
 
-pub All-left : {X : Type 0} (P : X → Type 0) (xs ys : List X) → All P (xs ++ ys) → All P xs
-All-left P [] ys h = All-nil P
-All-left P (x ∷ xs) ys h = All-cons P x xs (All-head P x (xs ++ ys) h) (All-left P xs ys (All-tail P x (xs ++ ys) h))
-
-pub All-right : {X : Type 0} (P : X → Type 0) (xs ys : List X) → All P (xs ++ ys) → All P ys
-All-right P [] ys h = h
-All-right P (x ∷ xs) ys h = All-right P xs ys (All-tail P x (xs ++ ys) h)
-
 gather_both : (M P Q R : V3 → Type 0) → ((n : V3) → P n → Q n → R n) → Gathered M P → Gathered M Q → Gathered M R
 gather_both M P Q R f a b = record {
   list = a.list ++ b.list;
   members = All-append M a.list b.list a.members b.members;
-  serves = λ n h. f n (a.serves n (All-left (λ r. pos 0 <ℤ dot_product n r) a.list b.list h)) (b.serves n (All-right (λ r. pos 0 <ℤ dot_product n r) a.list b.list h));
+  serves = λ n h. f n (a.serves n (All-append_left (λ r. pos 0 <ℤ dot_product n r) a.list b.list h)) (b.serves n (All-append_right (λ r. pos 0 <ℤ dot_product n r) a.list b.list h));
 }
 
 -- one list for all rows
@@ -87,8 +79,8 @@ flats M axis r m = by_sign (axis.of r)
     (λ h. gather_none (IsGone M axis) (λ n. FlatAt axis n r) (λ n. record { flat = λ e. clash_neg (axis.of r) e h }))
 
 -- the combination without the variable
-joined : (M : V3 → Type 0) (axis : Axis) → IsClosed M → (p q : V3) → M p → M q → pos 0 <ℤ axis.of p → pos 0 <ℤ neg_ℤ (axis.of q) → Gathered (IsGone M axis) (λ n. AgreeAt axis n p q)
-joined M axis closed p q mp mq hp hq =
+combination : (M : V3 → Type 0) (axis : Axis) → IsClosed M → (p q : V3) → M p → M q → pos 0 <ℤ axis.of p → pos 0 <ℤ neg_ℤ (axis.of q) → Gathered (IsGone M axis) (λ n. AgreeAt axis n p q)
+combination M axis closed p q mp mq hp hq =
     gather_one (IsGone M axis) (λ n. AgreeAt axis n p q) (mixed (neg_ℤ (axis.of q)) (axis.of p) p q)
     (closed.joins (neg_ℤ (axis.of q)) (axis.of p) p q hq hp mp mq, axis.of-mixed (neg_ℤ (axis.of q)) (axis.of p) p q ∙ cancels (axis.of p) (axis.of q))
     (λ n h. record { agree = λ _ _. subst (λ (z : ℤ). pos 0 <ℤ z) (dot-mixed n p q (neg_ℤ (axis.of q)) (axis.of p)) h })
@@ -100,7 +92,7 @@ with_below : (M : V3 → Type 0) (axis : Axis) → IsClosed M → (p : V3) → M
 with_below M axis closed p mp hp q mq = by_sign (axis.of q)
     (λ h. gather_none (IsGone M axis) (λ n. AgreeAt axis n p q) (λ n. record { agree = λ _ k. not_below (axis.of q) h k }))
     (λ e. gather_none (IsGone M axis) (λ n. AgreeAt axis n p q) (λ n. record { agree = λ _ k. not_zero (axis.of q) e k }))
-    (λ h. joined M axis closed p q mp mq hp h)
+    (λ h. combination M axis closed p q mp mq hp h)
 
 pairs_of : (M : V3 → Type 0) (axis : Axis) → IsClosed M → (rows : List V3) → All M rows → (p : V3) → M p → Gathered (IsGone M axis) (λ n. All (AgreeAt axis n p) rows)
 pairs_of M axis closed rows h p mp = by_sign (axis.of p)

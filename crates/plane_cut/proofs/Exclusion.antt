@@ -5,8 +5,8 @@ use Rattle.std.specs.List.{sum}
 use Rattle.std.proofs.lemmas.List.Sums.{sum_by-cons}
 use Rattle.std.proofs.lemmas.List.Elements.{All-head, All-tail}
 use Rattle.space3.specs.declared.vectors.V3.{V3}
-use Rattle.space3.specs.Vectors.{sum_of, multiple, dot_product}
-use Rattle.safe_motion.specs.Meeting.{origin, weighted_sum}
+use Rattle.space3.specs.Vectors.{origin, sum_of, multiple, dot_product}
+use Rattle.space3.specs.Weights.{weighted_sum}
 use Rattle.whole_laws.proofs.Ring.{ring, v, num, ◌⊕◌, ◌⊗◌}
 use Rattle.plane_cut.specs.Planes.{IsPlane, HasPlane, HasWeights}
 

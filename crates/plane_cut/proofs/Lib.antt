@@ -3,6 +3,6 @@ pub mod Elimination
 pub mod Exclusion
 pub mod Linear
 pub mod Narrowing
+pub mod RaysAndWedges
 pub mod Step
-pub mod Turns
 pub mod Weights

@@ -1,12 +1,12 @@
 -- The steps of a loop that narrows a cone row by row, and what the last cone says of the rows.
-use Rattle.std.proofs.Common.{◌≡◌, ℕ, ◌+◌, ◌<◌, ◌≤◌, ℤ, pos, ◌+ℤ◌, ◌*ℤ◌, neg_ℤ, ◌<ℤ◌, List, [], ◌∷◌, take, length, get_or, length-take, refl, sym, ◌∙◌, ap, subst, arith, IsTrue}
+use Rattle.std.proofs.Common.{◌≡◌, ℕ, ◌+◌, ◌<◌, ◌≤◌, ℤ, pos, ◌+ℤ◌, ◌*ℤ◌, neg_ℤ, ◌<ℤ◌, List, [], ◌∷◌, take, length, get_or, refl, sym, ◌∙◌, ap, subst, arith, IsTrue}
 use Rattle.std.proofs.lemmas.Int.{ints}
 use Rattle.std.specs.Prelude.{◌↔◌, Option, is_some}
 use Rattle.std.specs.List.{All}
-use Rattle.std.proofs.lemmas.List.{get_or-take}
 use Rattle.std.proofs.lemmas.List.Elements.{All-nil, All-more, All-weaker}
 use Rattle.space3.specs.declared.vectors.V3.{V3}
 use Rattle.space3.specs.Vectors.{dot_product}
+use Rattle.list_laws.proofs.Elements.{All-take_less, All-take_at}
 use Rattle.whole_laws.proofs.Ring.{ring, v, num, neg, ◌⊕◌, ◌⊖◌, ◌⊗◌}
 use Rattle.whole_laws.proofs.Order.{mul_pos_ℤ, add_pos_ℤ, nonneg_of_pos, clean}
 use Rattle.std.specs.Prelude.{int_lt, Some, None}
@@ -15,11 +15,11 @@ use Rattle.plane_cut.specs.Planes.{IsPlane, HasPlane}
 use Rattle.plane_cut.specs.Flat.{combined, flattened, ServesFlat, ServesPair, ServesPairs}
 use Rattle.plane_cut.specs.declared.cones.Cone.{Cone}
 use Rattle.plane_cut.specs.declared.cones.Cone.TheVariants.{Empty}
-use Rattle.plane_cut.specs.Cones.{corners, IsCone, Narrows, Adds}
+use Rattle.plane_cut.specs.Cones.{corners, IsCone, Narrows, NarrowsOrNone}
 use Rattle.plane_cut.proofs.Linear.{axis_z}
 use Rattle.plane_cut.proofs.Step.{Flat, Agree}
 use Rattle.plane_cut.proofs.Elimination.{lifted}
-use Rattle.plane_cut.proofs.Turns.{cone_plane}
+use Rattle.plane_cut.proofs.RaysAndWedges.{cone_plane}
 
 -- the first i rows serve n, each as F says
 abbrev pub First : (V3 → V3 → Type 0) → List V3 → ℕ → V3 → Type 0
@@ -28,24 +28,13 @@ First F rows i n = All (F n) (take i rows)
 pub first_narrows : (start : Cone) (F : V3 → V3 → Type 0) (rows : List V3) → IsCone start → Narrows start (First F rows 0) start
 first_narrows start F rows h = record { valid = h; same = λ n. (λ p. (p, All-nil (F n)), λ p. p.0) }
 
--- the part of a longer list
-All-less : (P : V3 → Type 0) (rows : List V3) (i m : ℕ) → i ≤ m → All P (take m rows) → All P (take i rows)
-All-less P rows i m l h k d b =
-    let q : P (get_or (take m rows) k d) = h k d (omega (arith, length-take m rows, length-take i rows)) in
-    let e : get_or (take m rows) k d ≡ get_or rows k d = get_or-take m rows k d (omega (arith, length-take i rows)) in
-    let f : get_or (take i rows) k d ≡ get_or rows k d = get_or-take i rows k d (omega (arith, length-take i rows)) in
-    subst P (e ∙ sym f) q
-
-pub All-at : (P : V3 → Type 0) (rows : List V3) (i m : ℕ) (d : V3) → i < m → m ≤ length rows → All P (take m rows) → P (get_or rows i d)
-All-at P rows i m d l k h = subst P (get_or-take m rows i d l) (h i d (omega (arith, length-take m rows)))
-
 pub narrows_more : (start cone next : Cone) (F : V3 → V3 → Type 0) (G : V3 → Type 0) (rows : List V3) (i : ℕ) (d : V3) → i < length rows →
     Narrows start (First F rows i) cone → Narrows cone G next → ((n : V3) → G n ↔ F n (get_or rows i d)) → Narrows start (First F rows (i + 1)) next
 narrows_more start cone next F G rows i d l a b g = record {
   valid = b.valid;
   same = λ n. (
     λ p. let q = (b.same n).0 p in let r = (a.same n).0 q.0 in (r.0, All-more (F n) rows i d l r.1 ((g n).0 q.1)),
-    λ p. (b.same n).1 ((a.same n).1 (p.0, All-less (F n) rows i (i + 1) (omega arith) p.1), (g n).1 (All-at (F n) rows i (i + 1) d (omega arith) (omega arith) p.1)),
+    λ p. (b.same n).1 ((a.same n).1 (p.0, All-take_less (F n) rows i (i + 1) (omega arith) p.1), (g n).1 (All-take_at (F n) rows i (i + 1) d (omega arith) (omega arith) p.1)),
   );
 }
 
@@ -55,14 +44,14 @@ narrows_skip start cone F rows i d l a g = record {
   valid = a.valid;
   same = λ n. (
     λ p. let r = (a.same n).0 p in (r.0, All-more (F n) rows i d l r.1 (g n)),
-    λ p. (a.same n).1 (p.0, All-less (F n) rows i (i + 1) (omega arith) p.1),
+    λ p. (a.same n).1 (p.0, All-take_less (F n) rows i (i + 1) (omega arith) p.1),
   );
 }
 
 pub narrows_none : (start cone : Cone) (F : V3 → V3 → Type 0) (G : V3 → Type 0) (rows : List V3) (i m : ℕ) (d : V3) → i < m → m ≤ length rows →
     Narrows start (First F rows i) cone → ¬ ((n : V3) × IsPlane n (corners cone) × G n) → ((n : V3) → G n ↔ F n (get_or rows i d)) → ¬ ((n : V3) × IsPlane n (corners start) × First F rows m n)
 narrows_none start cone F G rows i m d l k a none g p =
-    none (p.0, (a.same p.0).1 (p.1, All-less (F p.0) rows i m (omega arith) p.2), (g p.0).1 (All-at (F p.0) rows i m d l k p.2))
+    none (p.0, (a.same p.0).1 (p.1, All-take_less (F p.0) rows i m (omega arith) p.2), (g p.0).1 (All-take_at (F p.0) rows i m d l k p.2))
 
 -- ---- what a plane of the rows says of the eliminated rows, and back
 dot-flattened : (n r : V3) → r.z ≡ pos 0 → dot_product n (flattened r) ≡ dot_product n r
@@ -146,6 +135,6 @@ pub test_not_zero : (z : ℤ) → ¬ (of_z w64 z ≡ 0) → ¬ (z ≡ pos 0)
 test_not_zero z h e = h (ap (of_z w64) e)
 
 -- ---- the answer
-pub decides_plane : (rows : List V3) (cone : Cone) (result : Option Cone) → Narrows Empty (λ n. All (ServesFlat n) rows) cone → Adds cone (λ n. All (ServesPairs n rows) rows) result → IsTrue (is_some result) ↔ HasPlane rows
+pub decides_plane : (rows : List V3) (cone : Cone) (result : Option Cone) → Narrows Empty (λ n. All (ServesFlat n) rows) cone → NarrowsOrNone cone (λ n. All (ServesPairs n rows) rows) result → IsTrue (is_some result) ↔ HasPlane rows
 decides_plane rows cone (Some last) a b = (λ _. plane_at_last rows cone last a b, λ _. refl)
 decides_plane rows cone None a b = (λ t. cc, λ p. absurd (none_at_last rows cone a b p))

@@ -5,7 +5,8 @@ use Rattle.std.specs.List.{All, sum}
 use Rattle.std.proofs.lemmas.List.Sums.{sum_by-cons}
 use Rattle.std.proofs.lemmas.List.Elements.{All-nil, All-cons, All-weaker}
 use Rattle.space3.specs.declared.vectors.V3.{V3}
-use Rattle.safe_motion.specs.Meeting.{origin, weighted_sum}
+use Rattle.space3.specs.Vectors.{origin}
+use Rattle.space3.specs.Weights.{weighted_sum}
 use Rattle.whole_laws.proofs.Ring.{ring, v, ◌⊕◌, ◌⊗◌}
 use Rattle.plane_cut.specs.Planes.{HasPlane, HasWeights}
 use Rattle.plane_cut.proofs.Linear.{mixed, same_vector}

@@ -31,5 +31,5 @@ pub record Narrows (start : Cone) (P : V3 → Type 0) (cone : Cone) : Type 0 whe
   pub same : (n : V3) → IsPlane n (corners cone) ↔ (IsPlane n (corners start) × P n)
 
 -- a cone with exactly the planes of the start that have P, or None where there are none
-abbrev pub Adds : Cone → (V3 → Type 0) → Option Cone → Type 0
-Adds start P result = MatchOption result (¬ ((n : V3) × IsPlane n (corners start) × P n)) (Narrows start P)
+abbrev pub NarrowsOrNone : Cone → (V3 → Type 0) → Option Cone → Type 0
+NarrowsOrNone start P result = MatchOption result (¬ ((n : V3) × IsPlane n (corners start) × P n)) (Narrows start P)

@@ -1,8 +1,8 @@
 -- Planes through the origin with all rows strictly on one side, and weights that balance the rows.
 use Rattle.std.specs.Prelude.{◌≡◌, ℕ, ◌<◌, pos, ◌<ℤ◌, List, length, sum, All}
 use Rattle.space3.specs.declared.vectors.V3.{V3}
-use Rattle.space3.specs.Vectors.{dot_product}
-use Rattle.safe_motion.specs.Meeting.{origin, weighted_sum}
+use Rattle.space3.specs.Vectors.{origin, dot_product}
+use Rattle.space3.specs.Weights.{weighted_sum}
 
 -- each row has a positive product with n: it is strictly on the side of n of the plane across n
 abbrev pub IsPlane : V3 → List V3 → Type 0

@@ -3,7 +3,7 @@
 ghost use Rattle.std.specs.Prelude.{◌≡◌, ◌^◌, ◌<◌, ◌≤◌, pos, ◌<ℤ◌, ◌≤ℤ◌, ◌-ℤ◌, ◌+ℤ◌, ◌*ℤ◌, unsigned_abs};
 ghost use Rattle.space3.specs.Vectors.{dot_product};
 ghost use Rattle.plane_cut.specs.Flat.{turn_of};
-ghost use Rattle.plane_cut.specs.Cones.{as_row, IsCone, Adds};
+ghost use Rattle.plane_cut.specs.Cones.{as_row, IsCone, NarrowsOrNone};
 
 use crate::rows::Flat;
 use num_q::Q;
@@ -55,7 +55,7 @@ fn scalar(a: Flat, b: Flat) -> Q<0, 120>
 }
 
 fn ray(row: Flat) -> Option<Cone>
-    ensures { Adds Cone.Empty (λ n. pos 0 <ℤ dot_product n (as_row row)) result }
+    ensures { NarrowsOrNone Cone.Empty (λ n. pos 0 <ℤ dot_product n (as_row row)) result }
 {
     if row.x.raw() == 0 && row.y.raw() == 0 {
         None
@@ -66,7 +66,7 @@ fn ray(row: Flat) -> Option<Cone>
 
 fn opened(only: Flat, row: Flat) -> Option<Cone>
     requires { IsCone (Cone.Ray only) }
-    ensures { Adds (Cone.Ray only) (λ n. pos 0 <ℤ dot_product n (as_row row)) result }
+    ensures { NarrowsOrNone (Cone.Ray only) (λ n. pos 0 <ℤ dot_product n (as_row row)) result }
 {
     let left = turn(only, row).raw();
     if left > 0 {
@@ -82,7 +82,7 @@ fn opened(only: Flat, row: Flat) -> Option<Cone>
 
 fn widened(low: Flat, high: Flat, row: Flat) -> Option<Cone>
     requires { IsCone (Cone.Wedge low high) }
-    ensures { Adds (Cone.Wedge low high) (λ n. pos 0 <ℤ dot_product n (as_row row)) result }
+    ensures { NarrowsOrNone (Cone.Wedge low high) (λ n. pos 0 <ℤ dot_product n (as_row row)) result }
 {
     let from_low = turn(low, row).raw();
     let to_high = turn(row, high).raw();
@@ -106,7 +106,7 @@ fn widened(low: Flat, high: Flat, row: Flat) -> Option<Cone>
 /// The cone of one more row, or None where no plane serves that row too.
 pub fn narrowed(cone: Cone, row: Flat) -> Option<Cone>
     requires { IsCone cone }
-    ensures { Adds cone (λ n. pos 0 <ℤ dot_product n (as_row row)) result }
+    ensures { NarrowsOrNone cone (λ n. pos 0 <ℤ dot_product n (as_row row)) result }
 {
     match cone {
         Cone::Empty => ray(row),

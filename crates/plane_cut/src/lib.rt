@@ -7,8 +7,6 @@ mod laws;
 mod meeting;
 mod planes;
 mod rows;
-#[cfg(test)]
-mod tests;
 
 pub use laws::{plane_excludes_weights, plane_or_weights, separated_or_meeting};
 pub use meeting::meets;

@@ -3,7 +3,7 @@ ghost use Rattle.std.specs.Prelude.{IsTrue, is_some, ◌↔◌, ◌≡◌, ◌^�
 ghost use Rattle.space3.specs.Vectors.{AtMost, Within, vector};
 ghost use Rattle.plane_cut.specs.Planes.{HasPlane};
 ghost use Rattle.plane_cut.specs.Flat.{combined, flattened, ServesFlat, ServesPair, ServesPairs};
-ghost use Rattle.plane_cut.specs.Cones.{as_row, IsCone, Adds};
+ghost use Rattle.plane_cut.specs.Cones.{as_row, IsCone, NarrowsOrNone};
 
 use crate::cones::{Cone, narrowed};
 use crate::rows::Flat;
@@ -38,7 +38,7 @@ fn minor(a: i64, b: i64, c: i64, d: i64) -> Q<0, 60>
 }
 
 /// The combination of a row above 0 and one below 0 in which the third component is 0.
-fn joined(p: V3, q: V3) -> Flat
+fn combination(p: V3, q: V3) -> Flat
     requires above { Within (2 ^ 29) p }
     requires below { Within (2 ^ 29) q }
     ensures { as_row result ≡ combined p q }
@@ -63,7 +63,7 @@ fn flat(row: V3) -> Flat
 fn with_flats(rows: &[V3; 16], count: usize) -> Option<Cone>
     requires few { count ≤ 16 }
     requires range { All (Within (2 ^ 29)) (take count rows.now) }
-    ensures { Adds Cone.Empty (λ n. All (ServesFlat n) (take count rows.now)) result }
+    ensures { NarrowsOrNone Cone.Empty (λ n. All (ServesFlat n) (take count rows.now)) result }
 {
     let mut cone = Cone::Empty;
     for i in 0..count {
@@ -81,13 +81,13 @@ fn with_pairs(start: Cone, p: V3, rows: &[V3; 16], count: usize) -> Option<Cone>
     requires above { Within (2 ^ 29) p }
     requires few { count ≤ 16 }
     requires range { All (Within (2 ^ 29)) (take count rows.now) }
-    ensures { Adds start (λ n. All (ServesPair n p) (take count rows.now)) result }
+    ensures { NarrowsOrNone start (λ n. All (ServesPair n p) (take count rows.now)) result }
 {
     let mut cone = start;
     for i in 0..count {
         let q = rows[i];
         if q.z < 0 {
-            cone = narrowed(cone, joined(p, q))?;
+            cone = narrowed(cone, combination(p, q))?;
         }
     }
     Some(cone)
@@ -98,7 +98,7 @@ fn with_all_pairs(start: Cone, rows: &[V3; 16], count: usize) -> Option<Cone>
     requires start { IsCone start }
     requires few { count ≤ 16 }
     requires range { All (Within (2 ^ 29)) (take count rows.now) }
-    ensures { Adds start (λ n. All (ServesPairs n (take count rows.now)) (take count rows.now)) result }
+    ensures { NarrowsOrNone start (λ n. All (ServesPairs n (take count rows.now)) (take count rows.now)) result }
 {
     let mut cone = start;
     for i in 0..count {

@@ -7,11 +7,13 @@ use Rattle.space3.specs.declared.vectors.V3.{V3}
 use Rattle.space3.specs.Vectors.{vector, dot_product, difference, multiple}
 use Rattle.whole_laws.proofs.Ring.{ring, v, num, neg, ◌⊖◌}
 use Rattle.whole_laws.proofs.Blends.{AreShares, blend_pos}
-use Rattle.whole_laws.proofs.Lists.{all_or_any, Each, Each-map, Each-map_back, Each-both, All-append_left, All-append_right}
+use Rattle.list_laws.proofs.Elements.{all_or_any, All-append_left, All-append_right}
+use Rattle.list_laws.proofs.PairsOfElements.{Each, Each-map, Each-map_back, Each-both}
 use Rattle.safe_motion.specs.declared.motion.Move.{Move}
 use Rattle.safe_motion.specs.Moments.{IsFraction, place_at, places_at, start_places, end_places}
 use Rattle.safe_motion.specs.Meeting.{Separates}
-use Rattle.safe_motion.specs.Boxes.{IsBetween, both_ends, SweptBoxesTouch}
+use Rattle.space3.specs.Boxes.{IsBetween}
+use Rattle.safe_motion.specs.SweptBoxes.{both_ends, SweptBoxesTouch}
 use Rattle.safe_motion.specs.Certificates.{PairCertificate}
 use Rattle.safe_motion.proofs.VectorForms.{components, at, ◌⊖₃◌, ◌⊗₃◌, dot}
 use Rattle.safe_motion.proofs.Inside.{dot-place}

@@ -8,7 +8,7 @@ use Rattle.safe_motion.specs.Moments.{IsFraction, IsInside, places_at}
 use Rattle.safe_motion.specs.Meeting.{MeetAt}
 use Rattle.safe_motion.specs.declared.motion.Corners.{Corners}
 use Rattle.safe_motion.specs.Certificates.{IsServed, PairCertificate, VolumeCertificate, volume_at}
-use Rattle.safe_motion.specs.Safety.{Parts, SafeMotion, IsCertified, node_moves, corners}
+use Rattle.safe_motion.specs.Safety.{PartPair, SafeMotion, IsCertified, node_moves, corners}
 use Rattle.safe_motion.proofs.Inside.{some_interval}
 use Rattle.safe_motion.proofs.Separation.{separates_inside, meeting_excludes_separation}
 use Rattle.safe_motion.proofs.Volumes.{volume_inside}
@@ -28,7 +28,7 @@ certified_positive depth t certificate p q f =
     let i = some_interval p q (2 ^ depth) (pow_pos depth) f in
     volume_inside t p q i.0 (2 ^ depth) i.2 (certificate i.0 i.1)
 
-pub certified_safe : (depth : ℕ) (pairs : List Parts) (tets : List (List ℕ)) (x0 x1 : List V3) → IsCertified depth pairs tets x0 x1 → SafeMotion pairs tets x0 x1
+pub certified_safe : (depth : ℕ) (pairs : List PartPair) (tets : List (List ℕ)) (x0 x1 : List V3) → IsCertified depth pairs tets x0 x1 → SafeMotion pairs tets x0 x1
 certified_safe depth pairs tets x0 x1 c = record {
   apart = λ p q f. All-weaker
       (λ pair. PairCertificate depth (node_moves x0 x1 pair.left) (node_moves x0 x1 pair.right))

@@ -9,7 +9,7 @@ use Rattle.whole_laws.proofs.Ring.{ring, v, num, ◌⊕◌, ◌⊗◌}
 use Rattle.safe_motion.specs.declared.motion.Move.{Move}
 use Rattle.safe_motion.specs.Moments.{IsFraction, IsStill, place_at, places_at, start_places}
 use Rattle.safe_motion.specs.Certificates.{volume_at}
-use Rattle.safe_motion.specs.Safety.{Parts, SafeMotion, SafePlaces, node_move, node_moves, corners}
+use Rattle.safe_motion.specs.Safety.{PartPair, SafeMotion, SafePlaces, node_move, node_moves, corners}
 use Rattle.safe_motion.proofs.Standing.{meeting_along, still_meeting, still_volume_sign}
 
 pub place-start : (m : Move) → place_at 0 1 m ≡ m.start
@@ -48,13 +48,13 @@ start = record { within = omega arith; divisor = omega arith }
 end : IsFraction 1 1
 end = record { within = omega arith; divisor = omega arith }
 
-pub safe_start : (pairs : List Parts) (tets : List (List ℕ)) (x0 x1 : List V3) → SafeMotion pairs tets x0 x1 → SafePlaces pairs tets x0
+pub safe_start : (pairs : List PartPair) (tets : List (List ℕ)) (x0 x1 : List V3) → SafeMotion pairs tets x0 x1 → SafePlaces pairs tets x0
 safe_start pairs tets x0 x1 s = record {
   apart = λ k d l m. s.apart 0 1 start k d l (meeting_along (sym (places-start x0 x1 _)) (sym (places-start x0 x1 _)) m);
   upright = λ k d l. subst (λ z. pos 0 <ℤ z) (volume-start x0 x1 (slice_index_or tets k d)) (s.upright 0 1 start k d l);
 }
 
-pub safe_end : (pairs : List Parts) (tets : List (List ℕ)) (x0 x1 : List V3) → SafeMotion pairs tets x0 x1 → SafePlaces pairs tets x1
+pub safe_end : (pairs : List PartPair) (tets : List (List ℕ)) (x0 x1 : List V3) → SafeMotion pairs tets x0 x1 → SafePlaces pairs tets x1
 safe_end pairs tets x0 x1 s = record {
   apart = λ k d l m. s.apart 1 1 end k d l (meeting_along (sym (places-end x0 x1 _)) (sym (places-end x0 x1 _)) m);
   upright = λ k d l. subst (λ z. pos 0 <ℤ z) (volume-end x0 x1 (slice_index_or tets k d)) (s.upright 1 1 end k d l);
@@ -68,7 +68,7 @@ places-standing x (node ∷ nodes) = λ i. place_of x node ∷ places-standing x
 standing : (x : List V3) (nodes : List ℕ) → All IsStill (node_moves x x nodes)
 standing x nodes = All-map IsStill (node_move x x) nodes (λ k d l. refl)
 
-pub standing_safe : (pairs : List Parts) (tets : List (List ℕ)) (x : List V3) → SafePlaces pairs tets x → SafeMotion pairs tets x x
+pub standing_safe : (pairs : List PartPair) (tets : List (List ℕ)) (x : List V3) → SafePlaces pairs tets x → SafeMotion pairs tets x x
 standing_safe pairs tets x s = record {
   apart = λ p q f k d l m.
       let pair = slice_index_or pairs k d in

@@ -5,7 +5,6 @@ pub mod ExampleLemmas
 pub mod HalfIntervals
 pub mod Halving
 pub mod Inside
-pub mod PlainLemmas
 pub mod Separation
 pub mod Standing
 pub mod VectorForms

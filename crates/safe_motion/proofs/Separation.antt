@@ -8,10 +8,11 @@ use Rattle.space3.specs.declared.vectors.V3.{V3}
 use Rattle.space3.specs.Vectors.{dot_product, difference, multiple, sum_of}
 use Rattle.whole_laws.proofs.Ring.{ring, v, num, neg, ◌⊕◌, ◌⊖◌, ◌⊗◌}
 use Rattle.whole_laws.proofs.Order.{mul_nonneg_ℤ}
-use Rattle.whole_laws.proofs.Lists.{Each-map, Each-map_back, Each-both}
+use Rattle.list_laws.proofs.PairsOfElements.{Each-map, Each-map_back, Each-both}
 use Rattle.safe_motion.specs.declared.motion.Move.{Move}
 use Rattle.safe_motion.specs.Moments.{IsInside, place_at, places_at}
-use Rattle.safe_motion.specs.Meeting.{weighted_sum, AreMeetingWeights, Separates}
+use Rattle.space3.specs.Weights.{weighted_sum}
+use Rattle.safe_motion.specs.Meeting.{AreMeetingWeights, Separates}
 use Rattle.safe_motion.specs.Certificates.{Serves}
 use Rattle.safe_motion.proofs.VectorForms.{components, at, ◌⊕₃◌, ◌⊖₃◌, ◌⊗₃◌, dot}
 use Rattle.safe_motion.proofs.Inside.{dot-place, blend_inside}

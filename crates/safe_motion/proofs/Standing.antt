@@ -5,13 +5,14 @@ use Rattle.std.proofs.lemmas.Int.{ints}
 use Rattle.std.proofs.lemmas.List.{length-map}
 use Rattle.std.proofs.lemmas.List.Elements.{All-head, All-tail}
 use Rattle.space3.specs.declared.vectors.V3.{V3}
-use Rattle.space3.specs.Vectors.{vector, sum_of, difference, multiple}
+use Rattle.space3.specs.Vectors.{origin, vector, sum_of, difference, multiple}
 use Rattle.whole_laws.proofs.Ring.{ring, v, num, ◌⊕◌, ◌⊖◌, ◌⊗◌}
 use Rattle.whole_laws.proofs.Order.{mul_pos_ℤ}
 use Rattle.whole_laws.proofs.Blends.{same_of_times_nat, pos_of_times_nat}
 use Rattle.safe_motion.specs.declared.motion.Move.{Move}
 use Rattle.safe_motion.specs.Moments.{place_at, places_at, start_places, IsStill}
-use Rattle.safe_motion.specs.Meeting.{origin, weighted_sum, AreMeetingWeights, MeetAt, Meets}
+use Rattle.space3.specs.Weights.{weighted_sum}
+use Rattle.safe_motion.specs.Meeting.{AreMeetingWeights, MeetAt, Meets}
 use Rattle.safe_motion.specs.declared.motion.Corners.{Corners}
 use Rattle.safe_motion.specs.Certificates.{AreStill, edges_at, volume_at}
 use Rattle.safe_motion.proofs.Volumes.{scaled_edges, volume_of, volume-scaled}

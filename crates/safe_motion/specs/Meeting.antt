@@ -1,16 +1,10 @@
 -- When two lists of points meet, and what keeps them apart.
-use Rattle.std.specs.Prelude.{◌≡◌, ℕ, ◌<◌, pos, ◌<ℤ◌, List, [], ◌∷◌, length, sum, All}
+use Rattle.std.specs.Prelude.{◌≡◌, ℕ, ◌<◌, pos, ◌<ℤ◌, List, length, sum, All}
 use Rattle.space3.specs.declared.vectors.V3.{V3}
 use Rattle.safe_motion.specs.declared.motion.Move.{Move}
 use Rattle.safe_motion.specs.Moments.{places_at}
-pub use Rattle.space3.specs.Vectors.{origin}
-use Rattle.space3.specs.Vectors.{sum_of, difference, multiple, dot_product}
-
--- the sum of the points, each taken as often as its weight says
-abbrev pub weighted_sum : List ℕ → List V3 → V3
-weighted_sum (w ∷ ws) (x ∷ xs) = sum_of (multiple (pos w) x) (weighted_sum ws xs)
-weighted_sum [] xs = origin
-weighted_sum (w ∷ ws) [] = origin
+use Rattle.space3.specs.Vectors.{difference, dot_product}
+use Rattle.space3.specs.Weights.{weighted_sum}
 
 -- These weights show a common point of the two hulls: they have equal positive sums, and the two weighted sums
 -- of points are equal.

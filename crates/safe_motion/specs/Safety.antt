@@ -9,7 +9,7 @@ use Rattle.safe_motion.specs.Meeting.{Meets, MeetAt}
 use Rattle.safe_motion.specs.Certificates.{PairCertificate, VolumeCertificate, volume_at}
 
 -- the nodes of two parts that must not meet, as positions in the list of places
-pub record Parts : Type 0 where
+pub record PartPair : Type 0 where
   pub left : List ℕ
   pub right : List ℕ
 
@@ -28,18 +28,18 @@ corners x0 x1 nodes =
 
 -- at every fraction of the straight step from x0 to x1 no listed pair meets, and each tetrahedron's volume is
 -- positive
-pub record SafeMotion (pairs : List Parts) (tets : List (List ℕ)) (x0 x1 : List V3) : Type 0 where
+pub record SafeMotion (pairs : List PartPair) (tets : List (List ℕ)) (x0 x1 : List V3) : Type 0 where
   pub apart : (p q : ℕ) → IsFraction p q →
       All (λ pair. ¬ MeetAt p q (node_moves x0 x1 pair.left) (node_moves x0 x1 pair.right)) pairs
   pub upright : (p q : ℕ) → IsFraction p q → All (λ tet. pos 0 <ℤ volume_at p q (corners x0 x1 tet)) tets
 
 -- where the nodes stand no listed pair meets, and each tetrahedron's volume is positive
-pub record SafePlaces (pairs : List Parts) (tets : List (List ℕ)) (x : List V3) : Type 0 where
+pub record SafePlaces (pairs : List PartPair) (tets : List (List ℕ)) (x : List V3) : Type 0 where
   pub apart : All (λ pair. ¬ Meets (map (place_of x) pair.left) (map (place_of x) pair.right)) pairs
   pub upright : All (λ tet. pos 0 <ℤ rest_determinant x tet) tets
 
 -- each listed pair and each tetrahedron has its certificate
-pub record IsCertified (depth : ℕ) (pairs : List Parts) (tets : List (List ℕ)) (x0 x1 : List V3) : Type 0 where
+pub record IsCertified (depth : ℕ) (pairs : List PartPair) (tets : List (List ℕ)) (x0 x1 : List V3) : Type 0 where
   pub pairs_apart :
       All (λ pair. PairCertificate depth (node_moves x0 x1 pair.left) (node_moves x0 x1 pair.right)) pairs
   pub tets_upright : All (λ tet. VolumeCertificate depth (corners x0 x1 tet)) tets

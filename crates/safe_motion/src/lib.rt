@@ -6,7 +6,6 @@
 mod examples;
 mod motion;
 mod pair_laws;
-mod plain;
 mod safety;
 mod still_laws;
 mod volume_laws;
@@ -21,7 +20,6 @@ pub use pair_laws::{
     separated_lists_do_not_meet, separation_lasts_inside, served_parts_stay_apart,
     untouched_parts_are_certified,
 };
-pub use plain::{are_meeting_weights, separates, serves, stays_positive, volume};
 pub use safety::certified_is_safe;
 pub use still_laws::{
     safe_motions_have_safe_ends, standing_is_safe_at_safe_places, still_parts_meet_as_at_the_start,
@@ -31,6 +29,3 @@ pub use volume_laws::{
     certified_volumes_stay_positive, positive_numbers_keep_the_volume,
     volume_certificates_are_by_halves, volume_certificates_deepen,
 };
-
-#[cfg(test)]
-mod tests;

@@ -2,7 +2,7 @@
 ghost use Rattle.std.specs.Prelude.{ℕ, ◌+◌, ◌↔◌, List};
 ghost use Rattle.space3.specs.declared.vectors.V3.{V3};
 ghost use Rattle.safe_motion.specs.declared.motion.Move.{Move};
-ghost use Rattle.safe_motion.specs.Boxes.{SweptBoxesTouch};
+ghost use Rattle.safe_motion.specs.SweptBoxes.{SweptBoxesTouch};
 ghost use Rattle.safe_motion.specs.Certificates.{ByHalves, IsServed, PairCertificate, Serves};
 ghost use Rattle.safe_motion.specs.Meeting.{MeetAt, Meets, Separates};
 ghost use Rattle.safe_motion.specs.Moments.{IsFraction, IsInside, places_at};

@@ -5,7 +5,7 @@ ghost use Rattle.safe_motion.specs.declared.motion.Corners.{Corners};
 ghost use Rattle.space3.specs.declared.vectors.V3.{V3};
 ghost use Rattle.safe_motion.specs.Certificates.{AreStill, volume_at};
 ghost use Rattle.safe_motion.specs.Meeting.{MeetAt, Meets};
-ghost use Rattle.safe_motion.specs.Safety.{Parts, SafeMotion, SafePlaces};
+ghost use Rattle.safe_motion.specs.Safety.{PartPair, SafeMotion, SafePlaces};
 ghost use Rattle.safe_motion.specs.Moments.{IsStill, start_places};
 
 /// Parts that stay meet at a moment exactly where they meet at the start.
@@ -24,14 +24,14 @@ pub fn still_volumes_are_as_at_the_start()
 
 /// A safe motion starts and ends at safe places.
 pub fn safe_motions_have_safe_ends()
-    ensures start { (pairs : List Parts) (tets : List (List ℕ)) (x0 x1 : List V3) →
+    ensures start { (pairs : List PartPair) (tets : List (List ℕ)) (x0 x1 : List V3) →
         SafeMotion pairs tets x0 x1 → SafePlaces pairs tets x0 }
-    ensures end { (pairs : List Parts) (tets : List (List ℕ)) (x0 x1 : List V3) →
+    ensures end { (pairs : List PartPair) (tets : List (List ℕ)) (x0 x1 : List V3) →
         SafeMotion pairs tets x0 x1 → SafePlaces pairs tets x1 }
 {}
 
 /// Standing still is a safe motion exactly at safe places.
 pub fn standing_is_safe_at_safe_places()
-    ensures { (pairs : List Parts) (tets : List (List ℕ)) (x : List V3) →
+    ensures { (pairs : List PartPair) (tets : List (List ℕ)) (x : List V3) →
         SafeMotion pairs tets x x ↔ SafePlaces pairs tets x }
 {}

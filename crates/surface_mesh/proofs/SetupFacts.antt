@@ -9,7 +9,7 @@ use Rattle.std.specs.Ordering.{int_eq}
 use Rattle.std.proofs.lemmas.List.FromFn.{length-map-range_with_len}
 use Rattle.std.proofs.lemmas.List.Elements.{All-head, All-tail, All-map, All-filter, All-weaker, All-same}
 use Rattle.whole_laws.proofs.Order.{mul_nonneg_ℤ, add_nonneg_ℤ}
-use Rattle.whole_laws.proofs.Lists.{All-map_back}
+use Rattle.list_laws.proofs.Elements.{All-map_back}
 use Rattle.space3.specs.declared.vectors.V3.{V3}
 use Rattle.space3.specs.declared.lists.Tet.{Tet}
 use Rattle.space3.specs.declared.mesh.Mesh.{Mesh}

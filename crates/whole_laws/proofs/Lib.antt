@@ -1,6 +1,5 @@
 pub mod Blends
 pub mod Floors
 pub mod Laws
-pub mod Lists
 pub mod Order
 pub mod Ring

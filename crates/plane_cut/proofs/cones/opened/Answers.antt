@@ -1,6 +1,6 @@
 use Rattle.std.proofs.Common.{◌≡◌, pos, ◌<ℤ◌, ◌≤ℤ◌, ℤ, arith, subst, sym, ◌∙◌}
 use Rattle.std.proofs.lemmas.Int.{ints}
-use Rattle.plane_cut.proofs.Turns.{opens_left, opens_right, stays_ray, no_ray}
+use Rattle.plane_cut.proofs.RaysAndWedges.{opens_left, opens_right, stays_ray, no_ray}
 use Rattle.plane_cut.proofs.cones.opened.Goals as goal
 
 pub returns-then-left-gt0 : goal.returns-then-left-gt0

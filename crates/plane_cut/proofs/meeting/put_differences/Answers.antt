@@ -1,5 +1,5 @@
 use Rattle.std.proofs.Common.{◌<◌, take, length, length-set, arith}
-use Rattle.safe_motion.specs.Meeting.{origin}
+use Rattle.space3.specs.Vectors.{origin}
 use Rattle.plane_cut.proofs.Alternative.{row_put}
 use Rattle.plane_cut.proofs.meeting.put_differences.Goals as goal
 

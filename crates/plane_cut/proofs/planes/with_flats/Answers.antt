@@ -1,11 +1,11 @@
 use Rattle.std.proofs.Common.{◌≡◌, ℕ, ◌+◌, ◌^◌, pos, ◌<ℤ◌, arith, subst, sym, get_or}
-use Rattle.space3.specs.Vectors.{Within, dot_product}
-use Rattle.safe_motion.specs.Meeting.{origin}
+use Rattle.space3.specs.Vectors.{origin, Within, dot_product}
+use Rattle.list_laws.proofs.Elements.{All-take_at}
 use Rattle.plane_cut.specs.Flat.{ServesFlat}
 use Rattle.plane_cut.specs.declared.cones.Cone.{Cone}
 use Rattle.plane_cut.specs.declared.cones.Cone.TheVariants.{Empty}
 use Rattle.plane_cut.specs.Cones.{as_row, Narrows}
-use Rattle.plane_cut.proofs.Narrowing.{First, narrows_more, narrows_skip, narrows_none, All-at, flat_serves, test_zero, test_not_zero}
+use Rattle.plane_cut.proofs.Narrowing.{First, narrows_more, narrows_skip, narrows_none, flat_serves, test_zero, test_not_zero}
 use Rattle.plane_cut.proofs.planes.with_flats.Goals as goal
 use Rattle.plane_cut.proofs.planes.with_flats.Goals.{then-row-eq0+in_ok-cone, else-row-eq0}
 
@@ -13,7 +13,7 @@ pub returns-in_err-cone : goal.returns-in_err-cone
 returns-in_err-cone c =
     let rows = c.args.rows.now in
     let q = get_or rows c.loop-i.i origin in
-    let b : Within (2 ^ 29) q = All-at (Within (2 ^ 29)) rows c.loop-i.i c.args.count origin (omega arith) (omega arith) c.requires.range in
+    let b : Within (2 ^ 29) q = All-take_at (Within (2 ^ 29)) rows c.loop-i.i c.args.count origin (omega arith) (omega arith) c.requires.range in
     let none = narrows_none Empty c.loop-i.cone (λ n r. ServesFlat n r) (λ n. pos 0 <ℤ dot_product n (as_row c.flat.result)) rows c.loop-i.i c.args.count origin (omega arith) (omega arith) c.loop-i.invariant c.in_err-cone.ensures
     (flat_serves q (as_row c.flat.result) (test_zero q.z b.z.bound c.if-row-eq0.true) c.flat.ensures) in
     rw c.from_residual.ensures none
@@ -22,7 +22,7 @@ pub loop-i-preserved : goal.loop-i-preserved
 loop-i-preserved c =
     let rows = c.args.rows.now in
     let q = get_or rows c.loop-i.i origin in
-    let b : Within (2 ^ 29) q = All-at (Within (2 ^ 29)) rows c.loop-i.i c.args.count origin (omega arith) (omega arith) c.requires.range in
+    let b : Within (2 ^ 29) q = All-take_at (Within (2 ^ 29)) rows c.loop-i.i c.args.count origin (omega arith) (omega arith) c.requires.range in
     let P : Cone → Type 0 = λ k. Narrows Empty (First (λ n r. ServesFlat n r) rows (c.loop-i.i + 1)) k in
     elim c.if-row-eq0.branch [
       | then-row-eq0+in_ok-cone w ↦ subst P (sym w.cone-is) (narrows_more Empty c.loop-i.cone w.in_ok-cone.cone (λ n r. ServesFlat n r) (λ n. pos 0 <ℤ dot_product n (as_row w.flat.result)) rows c.loop-i.i origin (omega arith)

@@ -3,8 +3,7 @@ use Rattle.std.proofs.Common.{◌≡◌, ℤ, pos, negsuc, zero, suc, ◌+ℤ◌
 use Rattle.std.proofs.lemmas.Int.{ints}
 use Rattle.std.proofs.lemmas.List.Elements.{All-nil, All-cons, All-head, All-tail}
 use Rattle.space3.specs.declared.vectors.V3.{V3}
-use Rattle.space3.specs.Vectors.{vector, dot_product}
-use Rattle.safe_motion.specs.Meeting.{origin}
+use Rattle.space3.specs.Vectors.{origin, vector, dot_product}
 use Rattle.whole_laws.proofs.Ring.{ring, v, num, neg, ◌⊕◌, ◌⊖◌, ◌⊗◌}
 use Rattle.whole_laws.proofs.Order.{mul_pos_ℤ, mul_nonneg_ℤ, pos_of_mul_ℤ, nonneg_of_pos, add_pos_ℤ}
 use Rattle.plane_cut.specs.Planes.{IsPlane, HasPlane}

@@ -1,8 +1,6 @@
--- Boxes along the axes.
-use Rattle.std.specs.Prelude.{ℤ, ◌≤ℤ◌, List, ◌++◌, map, Any}
+-- Boxes along the axes, over lists of points.
+use Rattle.std.specs.Prelude.{ℤ, ◌≤ℤ◌, List, map, Any}
 use Rattle.space3.specs.declared.vectors.V3.{V3}
-use Rattle.safe_motion.specs.declared.motion.Move.{Move}
-use Rattle.safe_motion.specs.Moments.{start_places, end_places}
 
 -- c is between the least and the greatest of these numbers
 abbrev pub IsBetween : ℤ → List ℤ → Type 0
@@ -17,11 +15,3 @@ pub record IsInBox (c : V3) (points : List V3) : Type 0 where
 -- the two boxes have a common point
 abbrev pub BoxesTouch : List V3 → List V3 → Type 0
 BoxesTouch xs ys = (c : V3) × IsInBox c xs × IsInBox c ys
-
--- the places at the start and at the end
-abbrev pub both_ends : List Move → List V3
-both_ends moves = start_places moves ++ end_places moves
-
--- the boxes over start and end touch
-abbrev pub SweptBoxesTouch : List Move → List Move → Type 0
-SweptBoxesTouch xs ys = BoxesTouch (both_ends xs) (both_ends ys)
