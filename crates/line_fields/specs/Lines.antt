@@ -4,6 +4,7 @@ use Rattle.std.specs.Prelude.{◌≡◌, ◌⊎◌, ◌==◌, ◌||◌, ◌&&◌
 use Rattle.std.specs.List.{enumerate_from, slice_split}
 use Rattle.std.specs.Str.{all_ascii_digits}
 use Rattle.std.specs.Str.Parse.{digits_value}
+use Rattle.line_fields.specs.declared.numbers.TheConstants.{MOST_DIGITS, MOST_WHOLE}
 
 -- space, tab and carriage return
 abbrev pub is_blank : ℕ → Bool
@@ -33,29 +34,39 @@ rows text = filter is_filled (map fields (lines text))
 unfoldable pub row_of : List ℕ → List (List (List ℕ))
 row_of line = filter is_filled (fields line ∷ [])
 
--- The first line of a text, and the text after its line feed: nothing where the text has no line feed.
+-- Where a line stands in a text: after so many lines, and before the rest of the text, which is what follows the
+-- line's line feed, and nothing where it has none.
+abbrev pub IsLineAfter : ℕ → List ℕ → List ℕ → List ℕ → Type 0
+IsLineAfter before text line rest =
+    (drop before (lines text) ≡ line ∷ lines rest) ⊎ ((drop before (lines text) ≡ line ∷ []) × (rest ≡ []))
+
+-- the first line of a text, and the text after it
 abbrev pub IsFirstLine : List ℕ → List ℕ → List ℕ → Type 0
-IsFirstLine text line rest = (lines text ≡ line ∷ lines rest) ⊎ ((lines text ≡ line ∷ []) × (rest ≡ []))
+IsFirstLine text line rest = IsLineAfter 0 text line rest
 
--- the numbers of the lines that have a field, where the first line has the number `first`
-unfoldable pub row_numbers_from : ℕ → List ℕ → List ℕ
-row_numbers_from first text = map (λ line. line.0) (filter (λ line. is_filled (fields line.1)) (enumerate_from first (lines text)))
+-- a line with its number, as its fields
+abbrev pub with_fields : ℕ × List ℕ → ℕ × List (List ℕ)
+with_fields line = (line.0, fields line.1)
 
--- the numbers of the lines that have a field, counted from 1
-abbrev pub row_numbers : List ℕ → List ℕ
-row_numbers text = row_numbers_from 1 text
+-- the rows, each with the number of its line, where the text's first line has the number `first`
+unfoldable pub numbered_from : ℕ → List ℕ → List (ℕ × List (List ℕ))
+numbered_from first text = map with_fields (filter (λ line. is_filled (fields line.1)) (enumerate_from first (lines text)))
 
--- one to ten ASCII digits
-abbrev pub is_number : List ℕ → Bool
-is_number field = is_filled field && nat_le (length field) 10 && all_ascii_digits field
+-- the rows, each with the number of its line, counted from 1
+abbrev pub numbered : List ℕ → List (ℕ × List (List ℕ))
+numbered text = numbered_from 1 text
 
--- the number that one to ten digits write
-unfoldable pub digits_of : List ℕ → Option ℕ
-digits_of field = if is_number field then Some (digits_value 10 field) else None
+-- ASCII digits, at least one and at most ten
+abbrev pub is_unsigned : List ℕ → Bool
+is_unsigned field = is_filled field && nat_le (length field) MOST_DIGITS && all_ascii_digits field
 
--- one to ten ASCII digits of a number below 2^31
+-- the number that one to ten digits write, with leading zeros or without
+unfoldable pub unsigned_of : List ℕ → Option ℕ
+unsigned_of field = if is_unsigned field then Some (digits_value 10 field) else None
+
+-- one to ten ASCII digits of a whole number, which is below 2^31
 unfoldable pub is_whole : List ℕ → Bool
-is_whole field = is_number field && nat_le (digits_value 10 field) 2147483647
+is_whole field = is_unsigned field && nat_le (digits_value 10 field) MOST_WHOLE
 
 -- the whole number that a field is
 unfoldable pub whole_of : List ℕ → Option ℕ

@@ -1,7 +1,7 @@
 //! The cursor: the next line of a text that has a field, and the next field of a line.
 
-ghost use Rattle.std.specs.Prelude.{◌≡◌, ◌≢◌, ◌<◌, [], ◌∷◌, not, length, position, IfSome, MatchOption};
-ghost use Rattle.line_fields.specs.Lines.{fields, is_blank, is_filled, is_line_feed, rows, IsFirstLine};
+ghost use Rattle.std.specs.Prelude.{◌≡◌, ◌≢◌, ◌<◌, ◌≤◌, ◌+◌, ◌-◌, ◌^◌, [], ◌∷◌, not, length, position, IfSome, MatchOption};
+ghost use Rattle.line_fields.specs.Lines.{fields, is_blank, is_filled, is_line_feed, numbered_from, IsFirstLine, IsLineAfter};
 
 fn is_blank_byte(byte: u8) -> bool
     ensures { result ≡ is_blank byte }
@@ -63,18 +63,25 @@ pub fn has_field(line: &[u8]) -> bool
     }
 }
 
-/// The first line of a text that has a field, and the text after it; nothing where no line has one.
-pub fn next_row(text: &[u8]) -> Option<(&[u8], &[u8])>
-    ensures first { MatchOption result (rows text.now ≡ []) (λ r. rows text.now ≡ fields r.0.now ∷ rows r.1.now) }
-    ensures filled { IfSome result (λ r. fields r.0.now ≢ []) }
-    ensures shorter { IfSome result (λ r. length r.1.now < length text.now) }
+/// The first line of a text that has a field: its number, the line, and the text after it; nothing where no line has
+/// one. The text's first line has the number `first`.
+pub fn next_line(text: &[u8], first: usize) -> Option<(usize, &[u8], &[u8])>
+    requires { first + length text.now < 2 ^ 64 }
+    ensures first { MatchOption result (numbered_from first text.now ≡ [])
+        (λ r. numbered_from first text.now ≡ (r.0, fields r.1.now) ∷ numbered_from (r.0 + 1) r.2.now) }
+    ensures line { IfSome result (λ r. IsLineAfter (r.0 - first) text.now r.1.now r.2.now) }
+    ensures filled { IfSome result (λ r. fields r.1.now ≢ []) }
+    ensures within { IfSome result (λ r. (r.0 + 1) + length r.2.now ≤ first + length text.now) }
+    ensures shorter { IfSome result (λ r. length r.2.now < length text.now) }
 {
     let mut rest = text;
+    let mut number = first;
     while !rest.is_empty() {
         let (line, after) = split_line(rest);
         if has_field(line) {
-            return Some((line, after));
+            return Some((number, line, after));
         }
+        number += 1;
         rest = after;
     }
     None

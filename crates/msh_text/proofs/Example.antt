@@ -2,7 +2,7 @@
 use Rattle.std.proofs.Common.{◌≡◌, ℕ, ◌≤◌, ◌^◌, ℤ, pos, List, [], ◌∷◌, Some, refl, arith}
 use Rattle.std.specs.Prelude.{codes, neg_ℤ, unsigned_abs, All}
 use Rattle.std.proofs.lemmas.List.Elements.{All-from_recursion}
-use Rattle.line_fields.specs.Lines.{rows, lines, fields, is_whole, whole_of, tag_of, digits_of}
+use Rattle.line_fields.specs.Lines.{rows, lines, fields, is_whole, whole_of, tag_of, unsigned_of}
 use Rattle.space3.specs.declared.vectors.V3.{V3}
 use Rattle.space3.specs.declared.lists.Tet.{Tet}
 use Rattle.space3.specs.Box.{IsInTheBox}
@@ -24,7 +24,7 @@ places : List V3
 places = vector (pos 0) (pos 0) (pos 0) ∷ vector (pos 1000) (pos 0) (pos 0) ∷ vector (pos 0) (neg_ℤ (pos 1000)) (pos 0) ∷ vector (pos 0) (pos 0) (pos 1000) ∷ []
 
 is_read : sections_at (rows text) ≡ Some (nodes_of numbers places, tet ∷ [])
-unfolding text tet numbers places rows lines fields is_whole whole_of tag_of number_of digits_of coordinate_of node_of position_of node_at is_exactly tet_of begins after_word after_version after_format count_at row_at with_node nodes_at node_section_at are_different tet_at tets_at tet_section_at sections_at
+unfolding text tet numbers places rows lines fields is_whole whole_of tag_of number_of unsigned_of coordinate_of node_of position_of node_at is_exactly tet_of begins after_word after_version after_format count_at row_at with_node nodes_at node_section_at are_different tet_at tets_at tet_section_at sections_at
 is_read = refl
 
 within : (x y z : ℤ) → unsigned_abs x ≤ 2 ^ 20 → unsigned_abs y ≤ 2 ^ 20 → unsigned_abs z ≤ 2 ^ 20 → IsInTheBox (vector x y z)

@@ -5,7 +5,7 @@ use Rattle.std.specs.Str.Parse.{digits_value}
 use Rattle.std.proofs.lemmas.Bool.{and_parts, leb-true}
 use Rattle.std.proofs.lemmas.Int.{ints}
 use Rattle.std.proofs.lemmas.Option.{same_Some, cond_some}
-use Rattle.line_fields.specs.Lines.{is_number, whole_of, is_whole, tag_of}
+use Rattle.line_fields.specs.Lines.{is_unsigned, whole_of, is_whole, tag_of}
 use Rattle.space3.specs.Mesh.{IsNumber}
 use Rattle.msh_text.specs.FirstForm.{number_of, position_of, node_at}
 use Rattle.msh_text.proofs.Steps.{bind_some}
@@ -14,7 +14,7 @@ pub whole_found : (field : List ℕ) (n : ℕ) → whole_of field ≡ Some n →
 unfolding whole_of is_whole
 whole_found field n e =
     let g = cond_some (is_whole field) (digits_value 10 field) n e in
-    let p = and_parts (is_number field) (leb (digits_value 10 field) 2147483647) g.0 in
+    let p = and_parts (is_unsigned field) (leb (digits_value 10 field) 2147483647) g.0 in
     omega (arith, leb-true _ _ p.1, g.1)
 
 pub number_found : (field : List ℕ) (n : ℕ) → number_of field ≡ Some n → IsNumber n

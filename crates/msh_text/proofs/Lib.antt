@@ -7,6 +7,7 @@ pub mod Found
 pub mod FrameLines
 pub mod Loops
 pub mod NodeLoop
+pub mod Numbered
 pub mod Refusals
 pub mod Steps
 pub mod Words

@@ -2,7 +2,7 @@
 -- A text is taken as its rows: the lines that have a field, each as the list of its fields.
 use Rattle.std.specs.Prelude.{◌≡◌, ◌==◌, ◌++◌, ℕ, suc, ℤ, pos, neg_ℤ, List, [], ◌∷◌, map, drop, length, slice_index, codes, nat_le, if◌then◌else◌, Option, Some, None, IsSome, option_map, slice_get, All}
 use Rattle.std.specs.List.{zip}
-use Rattle.line_fields.specs.Lines.{digits_of, whole_of, tag_of}
+use Rattle.line_fields.specs.Lines.{unsigned_of, whole_of, tag_of}
 use Rattle.space3.specs.declared.vectors.V3.{V3}
 use Rattle.space3.specs.declared.lists.Tet.{Tet}
 use Rattle.space3.specs.declared.mesh.Mesh.{Mesh}
@@ -27,9 +27,9 @@ number_of field = do
 -- a coordinate: one to ten digits, perhaps with a sign before them
 unfoldable pub coordinate_of : List ℕ → Option ℤ
 coordinate_of field =
-    if slice_index field 0 == 43 then option_map pos (digits_of (drop 1 field))
-    else if slice_index field 0 == 45 then option_map (λ n. neg_ℤ (pos n)) (digits_of (drop 1 field))
-    else option_map pos (digits_of field)
+    if slice_index field 0 == 43 then option_map pos (unsigned_of (drop 1 field))
+    else if slice_index field 0 == 45 then option_map (λ n. neg_ℤ (pos n)) (unsigned_of (drop 1 field))
+    else option_map pos (unsigned_of field)
 
 -- the node of a row: its number and its place
 unfoldable pub node_of : Row → Option (ℕ × V3)

@@ -1,64 +1,17 @@
-//! What a line of a mesh text is: a number, a node, a count, the word of a section.
-ghost use Rattle.std.specs.Prelude.{◌≡◌, ◌==◌, ◌<◌, pos, neg_ℤ, slice_index, option_map};
-ghost use Rattle.line_fields.specs.Lines.{digits_of, fields, rows};
-ghost use Rattle.msh_text.specs.FirstForm.{number_of, coordinate_of, node_of};
+//! What a line of a mesh text is: the word of a section, the format, a count, a number.
+ghost use Rattle.std.specs.Prelude.{◌≡◌, ◌∷◌, [], option_map, MatchOption};
+ghost use Rattle.line_fields.specs.Lines.{fields, rows};
+ghost use Rattle.msh_text.specs.FirstForm.{number_of};
 ghost use Rattle.msh_text.specs.Reading.{after_word, after_version, after_format, count_at};
 
-use line_fields::{
-    begins_with, digits, four_fields, is_word, next_row, one_field, three_fields, whole,
-};
-use space3::V3;
+use line_fields::{begins_with, is_word, next_line, one_field, three_fields, whole_number};
 
-fn begins_byte(field: &[u8], byte: u8) -> bool
-    requires { 0 < byte }
-    ensures { result ≡ (slice_index field.now 0 == byte) }
+/// The first line of a text that has a field, and the text after it; nothing where no line has one.
+pub fn next_row(text: &[u8]) -> Option<(&[u8], &[u8])>
+    ensures { MatchOption result (rows text.now ≡ []) (λ r. rows text.now ≡ fields r.0.now ∷ rows r.1.now) }
 {
-    !field.is_empty() && field[0] == byte
-}
-
-fn unsigned(field: &[u8]) -> Option<i64>
-    ensures { result ≡ option_map pos (digits_of field.now) }
-{
-    Some(digits(field)? as i64)
-}
-
-fn negative(field: &[u8]) -> Option<i64>
-    ensures { result ≡ option_map (λ n. neg_ℤ (pos n)) (digits_of field.now) }
-{
-    Some(-(digits(field)? as i64))
-}
-
-#[tactic(auto, unfolding(crate::specs::FirstForm::coordinate_of))]
-fn coordinate(field: &[u8]) -> Option<i64>
-    ensures { result ≡ coordinate_of field.now }
-{
-    if begins_byte(field, b'+') {
-        unsigned(&field[1..])
-    } else if begins_byte(field, b'-') {
-        negative(&field[1..])
-    } else {
-        unsigned(field)
-    }
-}
-
-#[tactic(auto, unfolding(crate::specs::FirstForm::number_of))]
-pub fn number(field: &[u8]) -> Option<u32>
-    ensures { result ≡ number_of field.now }
-{
-    let n = whole(field)?;
-    if 1 <= n { Some(n) } else { None }
-}
-
-#[tactic(auto, unfolding(crate::specs::FirstForm::node_of))]
-pub fn node(line: &[u8]) -> Option<(u32, V3)>
-    ensures { result ≡ node_of (fields line.now) }
-{
-    let (name, x, y, z) = four_fields(line)?;
-    let number = number(name)?;
-    let x = coordinate(x)?;
-    let y = coordinate(y)?;
-    let z = coordinate(z)?;
-    Some((number, V3 { x, y, z }))
+    let (_, line, rest) = next_line(text, 0)?;
+    Some((line, rest))
 }
 
 // What follows a line that begins with a word.
@@ -81,7 +34,7 @@ fn skip_version(text: &[u8]) -> Option<&[u8]>
 {
     let (line, rest) = next_row(text)?;
     let (version, kind, size) = three_fields(line)?;
-    if is_word(version, b"2.2") && is_word(kind, b"0") && whole(size).is_some() {
+    if is_word(version, b"2.2") && is_word(kind, b"0") && whole_number(size).is_some() {
         Some(rest)
     } else {
         None
@@ -104,10 +57,19 @@ pub fn count(text: &[u8], limit: u32) -> Option<(u32, &[u8])>
     ensures { option_map (λ found. (found.0, rows found.1.now)) result ≡ count_at limit (rows text.now) }
 {
     let (line, rest) = next_row(text)?;
-    let count = whole(one_field(line)?)?;
+    let count = whole_number(one_field(line)?)?;
     if count <= limit {
         Some((count, rest))
     } else {
         None
     }
+}
+
+/// The number of a node or of an element: a whole number of at least 1.
+#[tactic(auto, unfolding(crate::specs::FirstForm::number_of))]
+pub fn positive_number(field: &[u8]) -> Option<u32>
+    ensures { result ≡ number_of field.now }
+{
+    let n = whole_number(field)?;
+    if 1 <= n { Some(n) } else { None }
 }

@@ -5,11 +5,10 @@ ghost use Rattle.msh_text.specs.FirstForm.{IsFirstForm};
 ghost use Rattle.msh_text.specs.Reading.{after_word, nodes_of, node_section_at, tet_section_at, sections_at};
 ghost use Rattle.msh_text.specs.Gives.{Gives, Refuses};
 
-use crate::lines::{count, skip_format, skip_word};
+use crate::lines::{count, next_row, skip_format, skip_word};
 use crate::nodes::{Nodes, read_nodes};
 use crate::refusal::{FIRST_FORM, ReadMshErr};
 use crate::tets::read_tets;
-use line_fields::next_row;
 use space3::{Mesh, NodeNumbers, Places, Tet, TetList};
 use std::alloc::Global;
 

@@ -6,10 +6,10 @@ ghost use Rattle.msh_text.specs.Reading.{are_different, tet_at, tets_at};
 ghost use Rattle.msh_text.specs.Gives.{Gives};
 ghost use Rattle.msh_text.specs.Elements.{tet_value, element_row};
 
-use crate::lines::number;
+use crate::lines::{next_row, positive_number};
 use crate::nodes::Nodes;
 use crate::refusal::{FIRST_FORM, ReadMshErr};
-use line_fields::{four_fields, next_field, next_row, tag, whole};
+use line_fields::{four_fields, next_field, tag, whole_number};
 use space3::{Tags, Tet};
 use std::alloc::Global;
 
@@ -36,7 +36,7 @@ struct Parts {
 fn exactly(field: &[u8], k: u32) -> Option<u32>
     ensures { result ≡ is_exactly k field.now }
 {
-    let n = whole(field)?;
+    let n = whole_number(field)?;
     if n == k { Some(n) } else { None }
 }
 
@@ -44,7 +44,7 @@ fn exactly(field: &[u8], k: u32) -> Option<u32>
 fn position(nodes: &Nodes, field: &[u8]) -> Option<u32>
     ensures { result ≡ node_at nodes.now.numbers.items field.now }
 {
-    nodes.position(number(field)?)
+    nodes.position(positive_number(field)?)
 }
 
 // Whether no number comes twice.
@@ -82,7 +82,7 @@ fn fields_of(line: &[u8]) -> Option<Element<'_>>
 fn parts_of(nodes: &Nodes, e: &Element<'_>) -> Option<Parts>
     ensures { option_map tet_value result ≡ tet_of nodes.now.numbers.items (element_row e.now) }
 {
-    let number = number(e.name)?;
+    let number = positive_number(e.name)?;
     exactly(e.kind, 4)?;
     exactly(e.tag_count, 2)?;
     let first = tag(e.tags.0)?;
