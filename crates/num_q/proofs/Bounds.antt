@@ -1,16 +1,12 @@
--- sums, products and quotients below a power of two
-use Rattle.std.proofs.Common.{◌≡◌, ℕ, zero, suc, ◌+◌, ◌-◌, ◌*◌, ◌/◌, ◌%◌, ◌≤◌, ◌<◌, ◌^◌, ℤ, pos, negsuc, ◌+ℤ◌, ◌-ℤ◌, ◌*ℤ◌, neg_ℤ, ◌≤ℤ◌, ◌<ℤ◌, unsigned_abs, sym, ◌∙◌, ap, subst, arith, to_z, of_z, FitsSigned, mul-le-mul}
+-- Sums, differences, products and cuts below a power of two.
+use Rattle.std.proofs.Common.{◌≡◌, ℕ, zero, suc, ◌+◌, ◌-◌, ◌*◌, ◌%◌, ◌≤◌, ◌<◌, ◌^◌, ℤ, pos, ◌+ℤ◌, ◌-ℤ◌, ◌*ℤ◌, neg_ℤ, ◌≤ℤ◌, unsigned_abs, sym, ◌∙◌, ap, subst, arith, to_z, of_z, FitsSigned, mul-le-mul}
 use Rattle.std.proofs.Math.Pow.{pow_mono}
+use Rattle.std.proofs.Math.Nat.{le_refl}
 use Rattle.std.proofs.lemmas.Nat.{pow-add, mul-lt, pow_pos, one_shl}
-use Rattle.std.specs.Int.{w128, int_shr, int_div_euclid, int_min, int_max}
 use Rattle.std.proofs.lemmas.Int.{ints, clamps, unsigned_abs-mul, fits_signed_from_abs, to_z-of_z, to_z_pos}
-use Rattle.std.proofs.Math.Nat.{le_refl, div-eq_of_lt}
-use Rattle.std.proofs.lemmas.Bool.{cases_lt}
-use Rattle.std.proofs.Common.{min, inl, inr}
-use lib.Signed.{mag}
+use Rattle.std.specs.Int.{w64, w128, int_min, int_max}
 use Rattle.whole_laws.proofs.Order.{size_sum, size_diff}
-use Rattle.whole_laws.proofs.Floors.{shr-is, floor_size}
-use Rattle.num_q.specs.Rounding.{floor_of, cut_of}
+use Rattle.num_q.specs.Rounding.{cut_of}
 
 abbrev pub back : ℤ → ℤ
 back z = to_z w128 (of_z w128 z)
@@ -34,17 +30,21 @@ fine x z k e h l = let P : ℤ → Type 0 = λ y. Fine y z k in subst P (sym e) 
   below = rw (back-is z k h l) h;
 })
 
-twice : (k : ℕ) → 2 ^ (k + 1) ≡ 2 ^ k + 2 ^ k
-twice k = omega (arith, pow-add 2 k 1)
-
-sum_below : (a b : ℤ) (m n k : ℕ) → unsigned_abs a < 2 ^ m → unsigned_abs b < 2 ^ n → m < k → n < k → unsigned_abs (a +ℤ b) < 2 ^ k
+pub sum_below : (a b : ℤ) (m n k : ℕ) → unsigned_abs a < 2 ^ m → unsigned_abs b < 2 ^ n → m < k → n < k → unsigned_abs (a +ℤ b) < 2 ^ k
 sum_below a b m n zero h q i j = absurd (omega arith)
 sum_below a b m n (suc k) h q i j =
     omega (arith, size_sum a b, pow_mono {i = m} {j = k} (omega arith), pow_mono {i = n} {j = k} (omega arith))
 
-pub sum_fine : (a b : ℤ) (m n k : ℕ) → unsigned_abs a < 2 ^ m → unsigned_abs b < 2 ^ n → m < k → n < k → k ≤ 126 → Fine (back a +ℤ back b) (a +ℤ b) k
-sum_fine a b m n k h q i j l =
-    fine _ _ k (λ t. back-is a m h (omega arith) t +ℤ back-is b n q (omega arith) t) (sum_below a b m n k h q i j) l
+pub sum_fine : (a b : ℤ) (k : ℕ) → unsigned_abs a < 2 ^ k → unsigned_abs b < 2 ^ k → unsigned_abs (a +ℤ b) < 2 ^ k → k ≤ 126 → Fine (back a +ℤ back b) (a +ℤ b) k
+sum_fine a b k h q s l = fine _ _ k (λ t. back-is a k h l t +ℤ back-is b k q l t) s l
+
+pub diff_below : (a b : ℤ) (m n k : ℕ) → unsigned_abs a < 2 ^ m → unsigned_abs b < 2 ^ n → m < k → n < k → unsigned_abs (a -ℤ b) < 2 ^ k
+diff_below a b m n zero h q i j = absurd (omega arith)
+diff_below a b m n (suc k) h q i j =
+    omega (arith, size_diff a b, pow_mono {i = m} {j = k} (omega arith), pow_mono {i = n} {j = k} (omega arith))
+
+pub diff_fine : (a b : ℤ) (k : ℕ) → unsigned_abs a < 2 ^ k → unsigned_abs b < 2 ^ k → unsigned_abs (a -ℤ b) < 2 ^ k → k ≤ 126 → Fine (back a -ℤ back b) (a -ℤ b) k
+diff_fine a b k h q s l = fine _ _ k (λ t. back-is a k h l t -ℤ back-is b k q l t) s l
 
 prod_below : (a b : ℤ) (m n k : ℕ) → unsigned_abs a < 2 ^ m → unsigned_abs b < 2 ^ n → m + n ≤ k → unsigned_abs (a *ℤ b) < 2 ^ k
 prod_below a b m n k h q i =
@@ -53,6 +53,30 @@ prod_below a b m n k h q i =
 pub prod_fine : (a b : ℤ) (m n k : ℕ) → unsigned_abs a < 2 ^ m → unsigned_abs b < 2 ^ n → m + n ≤ k → k ≤ 126 → Fine (back a *ℤ back b) (a *ℤ b) k
 prod_fine a b m n k h q i l =
     fine _ _ k (λ t. back-is a m h (omega arith) t *ℤ back-is b n q (omega arith) t) (prod_below a b m n k h q i) l
+
+one_shifted : (s : ℕ) → s ≤ 126 → to_z w128 (1 * 2 ^ s % 2 ^ 128) ≡ pos (2 ^ s)
+one_shifted s h =
+    let b : 2 ^ s < 2 ^ 127 = omega (arith, pow_mono {i = s} {j = 126} h) in
+    let e : 1 * 2 ^ s % 2 ^ 128 ≡ 2 ^ s = one_shl s 128 (omega arith) in
+    ap (to_z w128) e ∙ to_z_pos w128 (2 ^ s) b
+
+pub scaled_below : (a : ℤ) (m s k : ℕ) → unsigned_abs a < 2 ^ m → m + s ≤ k → unsigned_abs (a *ℤ pos (2 ^ s)) < 2 ^ k
+scaled_below a m s k h i =
+    let w : suc (unsigned_abs a) * 2 ^ s ≤ 2 ^ m * 2 ^ s = mul-le-mul h (le_refl (2 ^ s)) in
+    omega (arith, unsigned_abs-mul a (pos (2 ^ s)), w, pow-add 2 m s, pow_pos s, pow_mono {i = m + s} {j = k} i)
+
+pub scaled_fine : (a : ℤ) (m s k : ℕ) → unsigned_abs a < 2 ^ m → m + s ≤ k → k ≤ 126 → Fine (back a *ℤ to_z w128 (1 * 2 ^ s % 2 ^ 128)) (a *ℤ pos (2 ^ s)) k
+scaled_fine a m s k h i l =
+    fine _ _ k (λ t. back-is a m h (omega arith) t *ℤ one_shifted s (omega arith) t) (scaled_below a m s k h i) l
+
+-- a product of factors that were cut to 64 bits
+kept : (x a : ℤ) (m : ℕ) → x ≡ a → unsigned_abs a < 2 ^ m → m ≤ 63 → to_z w64 (of_z w64 x) ≡ a
+kept x a m e h l = ap (λ (z : ℤ). to_z w64 (of_z w64 z)) e ∙ to_z-of_z w64 a (fits_signed_from_abs w64 a (omega (arith, pow_mono {i = m} {j = 63} l)))
+
+pub short_fine : (p x y a b : ℤ) (m n k : ℕ) → p ≡ to_z w64 (of_z w64 x) *ℤ to_z w64 (of_z w64 y) → x ≡ a → y ≡ b →
+    unsigned_abs a < 2 ^ m → unsigned_abs b < 2 ^ n → m ≤ 63 → n ≤ 63 → m + n ≤ k → k ≤ 126 → Fine p (a *ℤ b) k
+short_fine p x y a b m n k e u v h q i j s l =
+    fine p (a *ℤ b) k (e ∙ (λ t. kept x a m u h i t *ℤ kept y b n v q j t)) (prod_below a b m n k h q s) l
 
 size_neg : (a : ℤ) → unsigned_abs (pos 0 -ℤ a) ≡ unsigned_abs a
 size_neg a = omega (arith, ints)
@@ -63,79 +87,6 @@ neg-is' a = omega (arith, ints)
 pub neg_fine : (a : ℤ) (k : ℕ) → unsigned_abs a < 2 ^ k → k ≤ 126 → Fine (pos 0 -ℤ back a) (neg_ℤ a) k
 neg_fine a k h l =
     fine _ _ k (ap (λ z. pos 0 -ℤ z) (back-is a k h l) ∙ neg-is' a) (rw (← neg-is' a) (omega (arith, size_neg a))) l
-
--- ---- rounding down
-pub shr_fine : (a : ℤ) (m n s : ℕ) → unsigned_abs a < 2 ^ m → m ≤ n → n ≤ 126 → Fine (int_shr (back a) s) (int_shr a s) n
-shr_fine a m n s h i l =
-    let p : pos 0 <ℤ pos (2 ^ s) = omega (arith, ints, pow_pos s) in
-    let q : unsigned_abs (int_shr a s) < 2 ^ n = rw (shr-is a s) (omega (arith, floor_size a (pos (2 ^ s)) p, pow_mono {i = m} {j = n} i)) in
-    fine _ _ n (ap (λ z. int_shr z s) (back-is a m h (omega arith))) q l
-
-one_shifted : (s : ℕ) → s ≤ 126 → to_z w128 (1 * 2 ^ s % 2 ^ 128) ≡ pos (2 ^ s)
-one_shifted s h =
-    let b : 2 ^ s < 2 ^ 127 = omega (arith, pow_mono {i = s} {j = 126} h) in
-    let e : 1 * 2 ^ s % 2 ^ 128 ≡ 2 ^ s = one_shl s 128 (omega arith) in
-    ap (to_z w128) e ∙ to_z_pos w128 (2 ^ s) b
-
-size_pow : (s : ℕ) → unsigned_abs (pos (2 ^ s)) < 2 ^ (s + 1)
-size_pow s = omega (arith, pow-add 2 s 1, pow_pos s)
-
-scaled_below : (a : ℤ) (m s k : ℕ) → unsigned_abs a < 2 ^ m → m + s ≤ k → unsigned_abs (a *ℤ pos (2 ^ s)) < 2 ^ k
-scaled_below a m s k h i =
-    let w : suc (unsigned_abs a) * 2 ^ s ≤ 2 ^ m * 2 ^ s = mul-le-mul h (le_refl (2 ^ s)) in
-    omega (arith, unsigned_abs-mul a (pos (2 ^ s)), w, pow-add 2 m s, pow_pos s, pow_mono {i = m + s} {j = k} i)
-
-pub scaled_fine : (a : ℤ) (m s k : ℕ) → unsigned_abs a < 2 ^ m → m + s ≤ k → k ≤ 126 → Fine (back a *ℤ to_z w128 (1 * 2 ^ s % 2 ^ 128)) (a *ℤ pos (2 ^ s)) k
-scaled_fine a m s k h i l =
-    fine _ _ k (λ t. back-is a m h (omega arith) t *ℤ one_shifted s (omega arith) t) (scaled_below a m s k h i) l
-
--- the quotient q of what `scaled_fine` speaks of, by a divisor above 0
-pub floor_fine : (a d q : ℤ) (m n s k : ℕ) → unsigned_abs a < 2 ^ m → unsigned_abs d < 2 ^ n → n ≤ 126 → pos 0 <ℤ d → m + s ≤ k → k ≤ 126 →
-    q ≡ int_div_euclid (back (back a *ℤ to_z w128 (1 * 2 ^ s % 2 ^ 128))) (back d) → Fine q (int_div_euclid (a *ℤ pos (2 ^ s)) d) k
-floor_fine a d q m n s k h hd nn p i l e =
-    let f = scaled_fine a m s k h i l in
-    let w : unsigned_abs (int_div_euclid (a *ℤ pos (2 ^ s)) d) < 2 ^ k = omega (arith, floor_size (a *ℤ pos (2 ^ s)) d p, scaled_below a m s k h i) in
-    fine q _ k (e ∙ (λ t. int_div_euclid (f.same t) (back-is d n hd nn t))) w l
-
--- a shift by more than 127 places is one by 127
-far : (a n : ℕ) → a < 2 ^ 127 → 127 ≤ n → a / 2 ^ n ≡ a / 2 ^ 127
-far a n h l = div-eq_of_lt (omega (arith, h, pow_mono {i = 127} {j = n} l)) ∙ sym (div-eq_of_lt h)
-
-mag_below : (z : ℤ) (m : ℕ) → unsigned_abs z < 2 ^ m → m ≤ 126 → mag z < 2 ^ 127
-mag_below (pos a) m h l = omega (arith, pow_mono {i = m} {j = 126} l)
-mag_below (negsuc a) m h l = omega (arith, pow_mono {i = m} {j = 126} l)
-
-shr_far : (z : ℤ) (n : ℕ) → mag z < 2 ^ 127 → 127 ≤ n → int_shr z 127 ≡ int_shr z n
-shr_far (pos a) n h l = ap pos (sym (far a n h l))
-shr_far (negsuc a) n h l = ap negsuc (sym (far a n h l))
-
-shr_min : (z : ℤ) (m n : ℕ) → unsigned_abs z < 2 ^ m → m ≤ 126 → int_shr z (min n 127) ≡ int_shr z n
-shr_min z m n h l = elim (cases_lt n 127) [
-  | inl k ↦ ap (int_shr z) (below n k)
-  | inr k ↦ ap (int_shr z) (above n k) ∙ shr_far z n (mag_below z m h l) k
-]
-  where
-    below : (n : ℕ) → n < 127 → min n 127 ≡ n
-    below n k = omega arith
-
-    above : (n : ℕ) → 127 ≤ n → min n 127 ≡ 127
-    above n k = omega arith
-
-pub down_fine : (a : ℤ) (m n s by : ℕ) → unsigned_abs a < 2 ^ m → m ≤ n → n ≤ 126 → by ≡ min s 127 → Fine (int_shr (back a) by) (floor_of a (pos (2 ^ s))) n
-down_fine a m n s by h i l e =
-    let f = shr_fine a m n by h i l in
-    let g : int_shr a by ≡ floor_of a (pos (2 ^ s)) = ap (int_shr a) e ∙ shr_min a m s h (omega arith) ∙ shr-is a s in
-    subst (λ (z : ℤ). Fine (int_shr (back a) by) z n) g f
-
--- ---- a difference
-diff_below : (a b : ℤ) (m n k : ℕ) → unsigned_abs a < 2 ^ m → unsigned_abs b < 2 ^ n → m < k → n < k → unsigned_abs (a -ℤ b) < 2 ^ k
-diff_below a b m n zero h q i j = absurd (omega arith)
-diff_below a b m n (suc k) h q i j =
-    omega (arith, size_diff a b, pow_mono {i = m} {j = k} (omega arith), pow_mono {i = n} {j = k} (omega arith))
-
-pub diff_fine : (a b : ℤ) (m n k : ℕ) → unsigned_abs a < 2 ^ m → unsigned_abs b < 2 ^ n → m < k → n < k → k ≤ 126 → Fine (back a -ℤ back b) (a -ℤ b) k
-diff_fine a b m n k h q i j l =
-    fine _ _ k (λ t. back-is a m h (omega arith) t -ℤ back-is b n q (omega arith) t) (diff_below a b m n k h q i j) l
 
 -- ---- a cut
 -- 2 ^ s - 1, as it is computed
