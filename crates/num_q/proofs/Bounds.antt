@@ -46,7 +46,7 @@ diff_below a b m n (suc k) h q i j =
 pub diff_fine : (a b : ℤ) (k : ℕ) → unsigned_abs a < 2 ^ k → unsigned_abs b < 2 ^ k → unsigned_abs (a -ℤ b) < 2 ^ k → k ≤ 126 → Fine (back a -ℤ back b) (a -ℤ b) k
 diff_fine a b k h q s l = fine _ _ k (λ t. back-is a k h l t -ℤ back-is b k q l t) s l
 
-prod_below : (a b : ℤ) (m n k : ℕ) → unsigned_abs a < 2 ^ m → unsigned_abs b < 2 ^ n → m + n ≤ k → unsigned_abs (a *ℤ b) < 2 ^ k
+pub prod_below : (a b : ℤ) (m n k : ℕ) → unsigned_abs a < 2 ^ m → unsigned_abs b < 2 ^ n → m + n ≤ k → unsigned_abs (a *ℤ b) < 2 ^ k
 prod_below a b m n k h q i =
     omega (arith, unsigned_abs-mul a b, mul-lt (unsigned_abs a) (unsigned_abs b) (2 ^ m) (2 ^ n) h q, pow-add 2 m n, pow_mono {i = m + n} {j = k} i)
 

@@ -3,6 +3,7 @@
 //! contracts are the laws.
 #![tactic(auto)]
 
+mod depth;
 mod examples;
 mod motion;
 mod pair_laws;
@@ -10,6 +11,7 @@ mod safety;
 mod still_laws;
 mod volume_laws;
 
+pub use depth::DEPTH;
 pub use examples::{
     overturning_tetrahedron_is_refused, swinging_edge_needs_depth_six,
     turning_edge_needs_one_halving,

@@ -1,0 +1,3 @@
+pub mod Matrices
+pub mod Raws
+pub mod Widths

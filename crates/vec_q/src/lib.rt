@@ -1,2 +1,10 @@
-//! Fixed-point vectors and matrices: each product is exact, and its width is kept by constants.
+//! Vectors and 3x3 matrices of fixed point. Fraction bits and widths of the parts are constants of
+//! the types, so that no product and no sum wraps, and callers show it by constants alone. In
+//! clauses a vector is seen as the vector of its raw numbers, and a matrix as that of its columns.
 #![tactic(auto)]
+
+mod matrices;
+mod vectors;
+
+pub use matrices::MatQ;
+pub use vectors::{VecQ, edge_between};

@@ -1,0 +1,3 @@
+-- The words of private functions' contracts.
+pub mod Bernstein
+pub mod Raws
