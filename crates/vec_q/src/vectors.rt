@@ -143,14 +143,12 @@ impl<const F: u32, const B: u32> VecQ<F, B> {
 }
 
 // The minor `a·d − b·c`.
-fn minor<
-    const F: u32,
-    const B: u32,
-    const F2: u32,
-    const B2: u32,
-    const F3: u32,
-    const B3: u32,
->(a: Q<F, B>, b: Q<F, B>, c: Q<F2, B2>, d: Q<F2, B2>) -> Q<F3, B3>
+fn minor<const F: u32, const B: u32, const F2: u32, const B2: u32, const F3: u32, const B3: u32>(
+    a: Q<F, B>,
+    b: Q<F, B>,
+    c: Q<F2, B2>,
+    d: Q<F2, B2>,
+) -> Q<F3, B3>
     requires fraction { F3 ≡ F + F2 }
     requires sum { B + B2 + 1 ≤ B3 }
     requires width { B3 ≤ 126 }

@@ -4,12 +4,12 @@ use Rattle.space3.specs.declared.vectors.V3.{V3}
 use Rattle.safe_motion.specs.Certificates.{VolumeCertificate}
 use Rattle.surface_mesh.specs.Edges.{has_edges_within}
 use Rattle.surface_mesh.proofs.ShortEdges.{first_edge_is_within, second_edge_is_within, third_edge_is_within}
-use Rattle.volume_cert.specs.Tetrahedra.{AreShortEdges, corners_between, edges_of}
+use Rattle.volume_cert.specs.Tetrahedra.{AreShortEdges, corners_between, edges_from_first}
 use Rattle.line_search.specs.Corners.{corners_at}
 use Rattle.line_search.specs.Upright.{longest_edge}
 use Rattle.line_search.proofs.allowed.is_certified.Goals as goal
 
-short : (places : List V3) (nodes : List ℕ) → IsTrue (has_edges_within longest_edge places nodes) → AreShortEdges (edges_of (corners_at places nodes))
+short : (places : List V3) (nodes : List ℕ) → IsTrue (has_edges_within longest_edge places nodes) → AreShortEdges (edges_from_first (corners_at places nodes))
 short places nodes h = record {
   u = first_edge_is_within longest_edge places nodes h;
   v = second_edge_is_within longest_edge places nodes h;
@@ -18,11 +18,11 @@ short places nodes h = record {
 
 pub certify_volume-requires-clause-start : goal.certify_volume-requires-clause-start
 certify_volume-requires-clause-start c =
-    subst (λ (t : List V3). AreShortEdges (edges_of t)) (sym c.corners_at.ensures) (short c.args.x.now c.args.tet.now.nodes c.requires.start)
+    subst (λ (t : List V3). AreShortEdges (edges_from_first t)) (sym c.corners_at.ensures) (short c.args.x.now c.args.tet.now.nodes c.requires.start)
 
 pub certify_volume-requires-clause-end : goal.certify_volume-requires-clause-end
 certify_volume-requires-clause-end c =
-    subst (λ (t : List V3). AreShortEdges (edges_of t)) (sym c.corners_at-2.ensures) (short c.args.y.now c.args.tet.now.nodes c.requires.end)
+    subst (λ (t : List V3). AreShortEdges (edges_from_first t)) (sym c.corners_at-2.ensures) (short c.args.y.now c.args.tet.now.nodes c.requires.end)
 
 along : (b : Bool) (start end start' end' : List V3) → start ≡ start' → end ≡ end' → (IsTrue b ↔ VolumeCertificate 8 (corners_between start end)) → IsTrue b ↔ VolumeCertificate 8 (corners_between start' end')
 along b start end start' end' p q h = rw (← p, ← q) h
