@@ -10,17 +10,19 @@ use Rattle.space3.specs.declared.vectors.V3.{V3}
 use Rattle.space3.specs.Vectors.{AtMost, Within, origin}
 use Rattle.surface_mesh.specs.declared.materials.Material.{Material}
 use Rattle.surface_mesh.specs.Materials.{IsFrom, IsMaterial}
+use Rattle.scene_toml.specs.declared.keys.TheConstants.{NAME_LENGTHS, FRAME_COUNTS, BUDGETS, TOLERANCES, GRAVITIES, CONTACT_DISTANCES, STIFFNESSES, DENSITIES, ZERO, MOST_FRAMES, MOST_BUDGET, MOST_TOL, MOST_NAME}
 use Rattle.scene_toml.specs.declared.keys.Section.{Section}
 use Rattle.scene_toml.specs.declared.keys.Section.TheVariants as sections
 use Rattle.scene_toml.specs.declared.refusal.SceneErr.{SceneErr}
 use Rattle.scene_toml.specs.declared.refusal.ReadSceneErr.{ReadSceneErr}
 use Rattle.scene_toml.specs.declared.scene.Scene.{Scene}
 use Rattle.scene_toml.specs.Gives.{Gives}
-use Rattle.scene_toml.specs.Keys as keys
-use Rattle.scene_toml.specs.Keys.{Key}
+use Rattle.scene_toml.specs.Calls.{integer_at, material_at, material_in, text_at, vector_at}
+use Rattle.scene_toml.specs.Keys.{Key, key}
+use Rattle.scene_toml.specs.Readings.{material_of}
 use Rattle.scene_toml.specs.Tables.{table_of, first_unknown}
-use Rattle.scene_toml.specs.Values.{in_range, integer_at, integer_of, text_at, text_of, three_integers, components_of, vector_at, vector_of}
-use Rattle.scene_toml.specs.Scenes.{IsName, IsScene, material_at, material_in, material_of, scene_in, scene_of_table, scene_of_text, unless_unknown}
+use Rattle.scene_toml.specs.Values.{in_range, integer_of, text_of, three_integers, components_of, vector_of}
+use Rattle.scene_toml.specs.Scenes.{IsName, IsScene, scene_in, scene_of_table, scene_of_text, unless_unknown}
 use Rattle.scene_toml.proofs.Steps.{and_then-ok}
 
 ok_same : {T : Type 0} (x y : T) → ◌≡◌ {A = Result T SceneErr} (Ok x) (Ok y) → x ≡ y
@@ -93,14 +95,14 @@ wider least most most' n more h = record { low = h.low; high = omega (arith, int
 
 material_in-holds : (ms : Members) (material : Material) → material_in ms ≡ Ok material → IsMaterial material
 material_in-holds ms material e =
-    and_then-ok (integer_at sections.Material keys.density ms) _ material e
-    (λ density density-is e. and_then-ok (integer_at sections.Material keys.mu ms) _ material e
-    (λ mu mu-is e. and_then-ok (integer_at sections.Material keys.lambda ms) _ material e
+    and_then-ok (integer_at sections.Material (key (codes "density") DENSITIES) ms) _ material e
+    (λ density density-is e. and_then-ok (integer_at sections.Material (key (codes "mu") ZERO) ms) _ material e
+    (λ mu mu-is e. and_then-ok (integer_at sections.Material (key (codes "lambda") ZERO) ms) _ material e
     (λ lambda lambda-is e.
     subst IsMaterial (ok_same _ material e) (record {
-      density = integer_at-holds sections.Material keys.density ms density density-is;
-      mu = wider _ _ (pos (2 ^ 30)) mu (omega arith) (integer_at-holds sections.Material keys.mu ms mu mu-is);
-      lambda = wider _ _ (pos (2 ^ 30)) lambda (omega arith) (integer_at-holds sections.Material keys.lambda ms lambda lambda-is);
+      density = integer_at-holds sections.Material (key (codes "density") DENSITIES) ms density density-is;
+      mu = wider _ _ (pos (2 ^ 30)) mu (omega arith) (integer_at-holds sections.Material (key (codes "mu") ZERO) ms mu mu-is);
+      lambda = wider _ _ (pos (2 ^ 30)) lambda (omega arith) (integer_at-holds sections.Material (key (codes "lambda") ZERO) ms lambda lambda-is);
       velocity = sizes_of 65536 origin (at_rest _ _ (omega arith) (omega arith));
     }))))
 
@@ -117,32 +119,32 @@ count_from least most n h = (omega (arith, ints, h.low, h.high), omega (arith, i
 
 scene_in-holds : (ms : Members) (scene : Scene) → scene_in ms ≡ Ok scene → IsScene scene
 scene_in-holds ms scene e =
-    and_then-ok (text_at sections.Top keys.mesh ms) _ scene e (λ mesh mesh-is e.
-    and_then-ok (text_at sections.Top keys.out ms) _ scene e (λ out out-is e.
-    and_then-ok (integer_at sections.Top keys.digits ms) _ scene e (λ digits digits-is e.
-    and_then-ok (integer_at sections.Top keys.frames ms) _ scene e (λ frames frames-is e.
-    and_then-ok (integer_at sections.Top keys.budget ms) _ scene e (λ budget budget-is e.
-    and_then-ok (integer_at sections.Top keys.tol ms) _ scene e (λ tol tol-is e.
-    and_then-ok (vector_at sections.Top keys.gravity origin ms) _ scene e (λ gravity gravity-is e.
-    and_then-ok (integer_at sections.Top keys.dhat ms) _ scene e (λ dhat dhat-is e.
-    and_then-ok (integer_at sections.Top keys.kappa ms) _ scene e (λ kappa kappa-is e.
+    and_then-ok (text_at sections.Top (key (codes "mesh") NAME_LENGTHS) ms) _ scene e (λ mesh mesh-is e.
+    and_then-ok (text_at sections.Top (key (codes "out") NAME_LENGTHS) ms) _ scene e (λ out out-is e.
+    and_then-ok (integer_at sections.Top (key (codes "digits") ZERO) ms) _ scene e (λ digits digits-is e.
+    and_then-ok (integer_at sections.Top (key (codes "frames") FRAME_COUNTS) ms) _ scene e (λ frames frames-is e.
+    and_then-ok (integer_at sections.Top (key (codes "budget") BUDGETS) ms) _ scene e (λ budget budget-is e.
+    and_then-ok (integer_at sections.Top (key (codes "tol") TOLERANCES) ms) _ scene e (λ tol tol-is e.
+    and_then-ok (vector_at sections.Top (key (codes "gravity") GRAVITIES) origin ms) _ scene e (λ gravity gravity-is e.
+    and_then-ok (integer_at sections.Top (key (codes "dhat") CONTACT_DISTANCES) ms) _ scene e (λ dhat dhat-is e.
+    and_then-ok (integer_at sections.Top (key (codes "kappa") STIFFNESSES) ms) _ scene e (λ kappa kappa-is e.
     and_then-ok (material_at ms) _ scene e (λ base base-is e.
-    let gravity_from = vector_of-holds sections.Top keys.gravity origin (get_member (codes "gravity") ms) gravity (at_rest _ _ (omega arith) (omega arith)) gravity-is in
-    let budget_from = count_from 1 1000 budget (integer_at-holds sections.Top keys.budget ms budget budget-is) in
+    let gravity_from = vector_of-holds sections.Top (key (codes "gravity") GRAVITIES) origin (get_member (codes "gravity") ms) gravity (at_rest _ _ (omega arith) (omega arith)) gravity-is in
+    let budget_from = count_from 1 1000 budget (integer_at-holds sections.Top (key (codes "budget") BUDGETS) ms budget budget-is) in
     subst IsScene (ok_same _ scene e) (record {
-      mesh = is_name mesh (text_of-holds sections.Top keys.mesh (get_member (codes "mesh") ms) mesh mesh-is);
-      out = is_name out (text_of-holds sections.Top keys.out (get_member (codes "out") ms) out out-is);
-      digits = omega (arith, (count_from 0 0 digits (integer_at-holds sections.Top keys.digits ms digits digits-is)).1);
-      frames = (count_from 0 9999 frames (integer_at-holds sections.Top keys.frames ms frames frames-is)).1;
+      mesh = is_name mesh (text_of-holds sections.Top (key (codes "mesh") NAME_LENGTHS) (get_member (codes "mesh") ms) mesh mesh-is);
+      out = is_name out (text_of-holds sections.Top (key (codes "out") NAME_LENGTHS) (get_member (codes "out") ms) out out-is);
+      digits = omega (arith, (count_from 0 0 digits (integer_at-holds sections.Top (key (codes "digits") ZERO) ms digits digits-is)).1);
+      frames = (count_from 0 9999 frames (integer_at-holds sections.Top (key (codes "frames") FRAME_COUNTS) ms frames frames-is)).1;
       some_budget = budget_from.0;
       budget = budget_from.1;
-      tol = integer_at-holds sections.Top keys.tol ms tol tol-is;
+      tol = integer_at-holds sections.Top (key (codes "tol") TOLERANCES) ms tol tol-is;
       numbers = record {
         base = material_of-holds (get_member (codes "material") ms) base base-is;
         few_parts = omega arith;
         parts = search rules;
-        kappa = integer_at-holds sections.Top keys.kappa ms kappa kappa-is;
-        dhat = integer_at-holds sections.Top keys.dhat ms dhat dhat-is;
+        kappa = integer_at-holds sections.Top (key (codes "kappa") STIFFNESSES) ms kappa kappa-is;
+        dhat = integer_at-holds sections.Top (key (codes "dhat") CONTACT_DISTANCES) ms dhat dhat-is;
         gravity = sizes_of (2 ^ 20) gravity gravity_from;
       };
     })))))))))))

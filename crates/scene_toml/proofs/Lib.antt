@@ -1,3 +1,4 @@
+pub mod FirstRefusal
 pub mod InRange
 pub mod Lookups
 pub mod Names

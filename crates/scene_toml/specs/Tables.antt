@@ -6,7 +6,8 @@ use Rattle.toml.specs.Data.{Data, table, Members, no_members, member, get_member
 use Rattle.toml.specs.Parse.{parse_document}
 use Rattle.scene_toml.specs.declared.keys.Section.{Section}
 use Rattle.scene_toml.specs.declared.keys.Section.TheVariants.{Top, Material}
-use Rattle.scene_toml.specs.Keys.{is_known, printed, material}
+use Rattle.scene_toml.specs.Keys.{printed}
+use Rattle.scene_toml.specs.Readings.{is_known, material}
 
 -- the table that a text means as TOML, where it is such a text
 abbrev pub table_of : List ℕ → Option Members

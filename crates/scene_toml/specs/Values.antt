@@ -1,6 +1,6 @@
 -- The value at a key, or why it is refused.
 use Rattle.std.specs.Prelude.{List, ℕ, ℤ, pos, length, Option, Some, None, Result, Ok, Err, ◌&&◌, int_le, if◌then◌else◌}
-use Rattle.toml.specs.Data.{Data, string, integer, array, Items, no_items, item, Members, get_member}
+use Rattle.toml.specs.Data.{Data, string, integer, array, Items, no_items, item}
 use Rattle.space3.specs.declared.vectors.V3.{V3}
 use Rattle.space3.specs.Vectors.{vector}
 use Rattle.scene_toml.specs.declared.keys.Section.{Section}
@@ -24,17 +24,11 @@ integer_of section key (Some (integer n)) = in_range section key n
 integer_of section key (Some _) = Err (WrongType (printed section key.name))
 integer_of section key None = Err (Missing (printed section key.name))
 
-abbrev pub integer_at : Section → Key → Members → Result ℤ SceneErr
-integer_at section key members = integer_of section key (get_member key.name members)
-
 -- a text whose length in bytes is in the key's range
 abbrev pub text_of : Section → Key → Option Data → Result (List ℕ) SceneErr
 text_of section key (Some (string text)) = and_then (in_range section key (pos (length text))) (λ _. Ok text)
 text_of section key (Some _) = Err (WrongType (printed section key.name))
 text_of section key None = Err (Missing (printed section key.name))
-
-abbrev pub text_at : Section → Key → Members → Result (List ℕ) SceneErr
-text_at section key members = text_of section key (get_member key.name members)
 
 -- the three integers that are all of a list
 abbrev pub three_integers : Items → Option V3
@@ -55,6 +49,3 @@ abbrev pub vector_of : Section → Key → V3 → Option Data → Result V3 Scen
 vector_of section key absent (Some (array items)) = components_of section key (three_integers items)
 vector_of section key absent (Some _) = Err (WrongType (printed section key.name))
 vector_of section key absent None = Ok absent
-
-abbrev pub vector_at : Section → Key → V3 → Members → Result V3 SceneErr
-vector_at section key absent members = vector_of section key absent (get_member key.name members)

@@ -1,23 +1,59 @@
-//! The keys of a scene with their ranges. A new key is a constant here and an item of its section's list.
+//! The keys of a scene with their ranges. A new key is a constant here, a name in its table's list, and an item of the
+//! list of readings in specs/Readings.antt.
 ghost use Rattle.std.specs.Prelude.{◌≡◌, ◌&&◌, IfOk, int_le, bytes_eq};
 ghost use Rattle.std.specs.List.{list_any};
-ghost use Rattle.scene_toml.specs.Keys.{is_known, prefix, printed};
+ghost use Rattle.scene_toml.specs.Keys.{prefix, printed};
+ghost use Rattle.scene_toml.specs.Readings.{is_known};
 
 use crate::texts::KeyText;
 use std::alloc::{AllocError, Global};
 use std::marker::Model;
 
-/// A key: its name, then the least and the greatest value of an integer, of each of three integers, or of a text's
-/// length in bytes.
+/// The longest name of a file in bytes: with a frame's number and ending it stays within what file systems take, 255.
+pub const MOST_NAME: usize = 200;
+
+/// The most frames after the first: their numbers are written with four digits.
+pub const MOST_FRAMES: u32 = 9999;
+
+/// The greatest budget of a frame: no frame takes more steps.
+pub const MOST_BUDGET: u32 = 1000;
+
+/// The greatest tolerance: a signed 64-bit word holds it with a bit to spare.
+pub const MOST_TOL: i64 = 1 << 62;
+
+/// The least and the greatest value of an integer, of each of three integers, or of a text's length in bytes.
+#[derive(Clone, Copy)]
+pub(crate) struct Range(i64, i64);
+
+pub(crate) const NAME_LENGTHS: Range = Range(1, MOST_NAME as i64);
+
+pub(crate) const FRAME_COUNTS: Range = Range(0, MOST_FRAMES as i64);
+
+pub(crate) const BUDGETS: Range = Range(1, MOST_BUDGET as i64);
+
+pub(crate) const TOLERANCES: Range = Range(0, MOST_TOL);
+
+pub(crate) const GRAVITIES: Range = Range(-(1 << 20), 1 << 20);
+
+pub(crate) const CONTACT_DISTANCES: Range = Range(2, 1024);
+
+pub(crate) const STIFFNESSES: Range = Range(1, 1 << 40);
+
+pub(crate) const DENSITIES: Range = Range(1, 1024);
+
+/// What is 0 until another value has a meaning: decimal digits and moduli.
+pub(crate) const ZERO: Range = Range(0, 0);
+
+/// A key: its name, and what it allows. That of a table has no range.
 #[derive(Drop)]
-pub(crate) struct Key(&'static str, i64, i64);
+pub(crate) struct Key(&'static str, Range);
 
 impl Model for Key {
     ghost use Rattle.scene_toml.specs.Keys.{Key, key};
 
     ghost Value = { Key };
 
-    ghost view = { λ k. key k.0.now k.1 k.2 };
+    ghost view = { λ k. key k.0.now k.1 };
 }
 
 /// The table that a key stands in.
@@ -27,32 +63,31 @@ pub(crate) enum Section {
     Material,
 }
 
-pub(crate) const MESH: Key = Key("mesh", 1, 200);
+pub(crate) const MESH: Key = Key("mesh", NAME_LENGTHS);
 
-pub(crate) const OUT: Key = Key("out", 1, 200);
+pub(crate) const OUT: Key = Key("out", NAME_LENGTHS);
 
-pub(crate) const DIGITS: Key = Key("digits", 0, 0);
+pub(crate) const DIGITS: Key = Key("digits", ZERO);
 
-pub(crate) const FRAMES: Key = Key("frames", 0, 9999);
+pub(crate) const FRAMES: Key = Key("frames", FRAME_COUNTS);
 
-pub(crate) const BUDGET: Key = Key("budget", 1, 1000);
+pub(crate) const BUDGET: Key = Key("budget", BUDGETS);
 
-pub(crate) const TOL: Key = Key("tol", 0, 1 << 62);
+pub(crate) const TOL: Key = Key("tol", TOLERANCES);
 
-pub(crate) const GRAVITY: Key = Key("gravity", -(1 << 20), 1 << 20);
+pub(crate) const GRAVITY: Key = Key("gravity", GRAVITIES);
 
-pub(crate) const DHAT: Key = Key("dhat", 2, 1024);
+pub(crate) const DHAT: Key = Key("dhat", CONTACT_DISTANCES);
 
-pub(crate) const KAPPA: Key = Key("kappa", 1, 1 << 40);
+pub(crate) const KAPPA: Key = Key("kappa", STIFFNESSES);
 
-// A table, so without a range.
-pub(crate) const MATERIAL: Key = Key("material", 0, 0);
+pub(crate) const MATERIAL: Key = Key("material", ZERO);
 
-pub(crate) const DENSITY: Key = Key("density", 1, 1024);
+pub(crate) const DENSITY: Key = Key("density", DENSITIES);
 
-pub(crate) const MU: Key = Key("mu", 0, 0);
+pub(crate) const MU: Key = Key("mu", ZERO);
 
-pub(crate) const LAMBDA: Key = Key("lambda", 0, 0);
+pub(crate) const LAMBDA: Key = Key("lambda", ZERO);
 
 const TOP_KEYS: [Key; 10] = [
     MESH, OUT, DIGITS, FRAMES, BUDGET, TOL, GRAVITY, DHAT, KAPPA, MATERIAL,
@@ -72,7 +107,7 @@ impl Key {
     pub(crate) fn allows(&self, number: i64) -> bool
         ensures { result ≡ (int_le self.now.least number && int_le number self.now.most) }
     {
-        self.1 <= number && number <= self.2
+        self.1.0 <= number && number <= self.1.1
     }
 
     /// The key as it is printed.

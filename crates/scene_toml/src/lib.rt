@@ -9,10 +9,8 @@ mod tables;
 mod texts;
 mod values;
 
-pub use laws::scenes_are_in_range;
+pub use keys::{MOST_BUDGET, MOST_FRAMES, MOST_NAME, MOST_TOL};
+pub use laws::{scenes_are_in_range, scenes_are_refused_in_key_order};
 pub use refusal::{ReadSceneErr, SceneErr};
 pub use scene::{Scene, read_scene};
 pub use texts::{KeyText, NameText};
-
-#[cfg(test)]
-mod tests;

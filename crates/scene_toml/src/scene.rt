@@ -2,7 +2,8 @@
 ghost use Rattle.std.specs.Prelude.{IfOk};
 ghost use Rattle.toml.specs.View.{table_view};
 ghost use Rattle.scene_toml.specs.Gives.{Gives};
-ghost use Rattle.scene_toml.specs.Scenes.{IsScene, material_at, material_in, scene_in, scene_of_members, scene_of_text};
+ghost use Rattle.scene_toml.specs.Calls.{material_at, material_in};
+ghost use Rattle.scene_toml.specs.Scenes.{IsScene, scene_in, scene_of_members, scene_of_text};
 
 use crate::keys::{
     BUDGET, DENSITY, DHAT, DIGITS, FRAMES, GRAVITY, KAPPA, LAMBDA, MATERIAL, MESH, MU, OUT,

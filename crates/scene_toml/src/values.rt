@@ -6,7 +6,8 @@ ghost use Rattle.scene_toml.specs.declared.refusal.ReadSceneErr.TheVariants.{Sce
 ghost use Rattle.scene_toml.specs.declared.refusal.SceneErr.TheVariants.{Missing, WrongType};
 ghost use Rattle.scene_toml.specs.Gives.{Gives};
 ghost use Rattle.scene_toml.specs.Keys.{printed};
-ghost use Rattle.scene_toml.specs.Values.{in_range, integer_at, text_at, vector_at, components_of, three_integers};
+ghost use Rattle.scene_toml.specs.Calls.{integer_at, text_at, vector_at};
+ghost use Rattle.scene_toml.specs.Values.{in_range, components_of, three_integers};
 
 use crate::keys::{Key, Section};
 use crate::refusal::{ReadSceneErr, SceneErr};

@@ -1,2 +1,11 @@
-//! Tests of the texts: decimals, lines and fields, meshes, scenes, files in memory. A module is a layer.
+//! Tests of the texts: lines and fields, meshes, scenes, decimals, files in memory. A module is a layer.
+//!
+//! The tests are tables of cases, and call only what has no conditions on data.
 #![tactic(auto)]
+
+#[cfg(test)]
+mod lines;
+#[cfg(test)]
+mod meshes;
+#[cfg(test)]
+mod scenes;

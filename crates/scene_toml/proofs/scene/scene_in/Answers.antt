@@ -1,9 +1,18 @@
 use Rattle.std.proofs.Common.{◌≡◌, [], refl, w8, w32, arith}
 use Rattle.toml.specs.View.{table_view}
-use Rattle.scene_toml.specs.Scenes.{material_at}
+use Rattle.std.specs.Prelude.{codes}
+use Rattle.scene_toml.specs.declared.keys.Section.TheVariants.{Top}
+use Rattle.scene_toml.specs.declared.keys.TheConstants.{STIFFNESSES}
+use Rattle.scene_toml.specs.Calls.{integer_at, material_at}
+use Rattle.scene_toml.specs.Keys.{key}
 use Rattle.scene_toml.proofs.Numbers.{stays, fits_unsigned}
 use Rattle.scene_toml.proofs.Steps.{gives_failure}
 use Rattle.scene_toml.proofs.scene.scene_in.Goals as goal
+
+pub returns-in_err-kappa : goal.returns-in_err-kappa
+returns-in_err-kappa c =
+    gives_failure _ c.in_err-kappa.field-0.0 (integer_at Top (key (codes "kappa") STIFFNESSES) (table_view c.args.table.now)) _ c.from_residual-in_err-kappa.ensures.1 c.in_err-kappa.ensures.reading
+    (λ fault e. rw (c.in_ok-mesh.ensures, c.in_ok-out.ensures, c.in_ok-digits.ensures.reading, c.in_ok-frames.ensures.reading, c.in_ok-budget.ensures.reading, c.in_ok-tol.ensures.reading, c.in_ok-gravity.ensures, c.in_ok-dhat.ensures.reading, e) refl)
 
 pub returns-in_err-base : goal.returns-in_err-base
 returns-in_err-base c =

@@ -1,5 +1,5 @@
 use Rattle.std.proofs.Common.{◌≡◌, Some, None, false, not, map, find, string_bytes, rules, sym, ap, ◌∙◌}
-use Rattle.scene_toml.specs.Keys.{is_known}
+use Rattle.scene_toml.specs.Readings.{is_known}
 use Rattle.scene_toml.proofs.Names.{names_of-keys}
 use Rattle.scene_toml.proofs.tables.unknown_name.Goals as goal
 

@@ -1,6 +1,6 @@
 use Rattle.std.proofs.Common.{◌≡◌, map, find, not, string_bytes}
 use Rattle.std.specs.BTreeMap.{keys}
-use Rattle.scene_toml.specs.Keys.{is_known}
+use Rattle.scene_toml.specs.Readings.{is_known}
 use Rattle.scene_toml.proofs.tables.unknown_name.Given as goal
 
 abbrev pub invariant-loop-name : goal.invariant-loop-name

@@ -1,4 +1,5 @@
-use super::*;
+//! Scenes as texts, and what is said of those that are refused.
+use scene_toml::{ReadSceneErr, SceneErr, read_scene};
 use std::alloc::Global;
 use std::test::Fail;
 

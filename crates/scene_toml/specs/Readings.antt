@@ -1,0 +1,110 @@
+-- The keys of each table in the order in which they are tried, and what is read at each.
+use Rattle.std.specs.Prelude.{List, [], ◌∷◌, ℕ, ℤ, pos, Bool, codes, bytes_eq, map, unsigned_abs, false, Option, Some, None, Result, Ok, Err}
+use Rattle.std.specs.List.{list_any}
+use Rattle.std.specs.Option.{option_or}
+use Rattle.toml.specs.Data.{Data, table, Members, get_member}
+use Rattle.space3.specs.declared.vectors.V3.{V3}
+use Rattle.space3.specs.Vectors.{origin}
+use Rattle.surface_mesh.specs.declared.materials.Material.{Material}
+use Rattle.surface_mesh.specs.declared.materials.Numbers.{Numbers}
+use Rattle.scene_toml.specs.declared.keys.Range.{Range}
+use Rattle.scene_toml.specs.declared.keys.Section.{Section}
+use Rattle.scene_toml.specs.declared.keys.Section.TheVariants as sections
+use Rattle.scene_toml.specs.declared.keys.TheConstants.{NAME_LENGTHS, FRAME_COUNTS, BUDGETS, TOLERANCES, GRAVITIES, CONTACT_DISTANCES, STIFFNESSES, DENSITIES, ZERO}
+use Rattle.scene_toml.specs.declared.refusal.SceneErr.{SceneErr}
+use Rattle.scene_toml.specs.declared.refusal.SceneErr.TheVariants.{Missing, WrongType}
+use Rattle.scene_toml.specs.declared.scene.Scene.{Scene}
+use Rattle.scene_toml.specs.Keys.{Key, key, printed}
+use Rattle.scene_toml.specs.Values.{and_then, integer_of, text_of, vector_of}
+
+-- A key of a table that gives an `S`: what is read at the key, or why it is refused, and where in the `S` it goes.
+pub record Reading (S : Type 0) : Type 1 where
+  pub Value : Type 0
+  pub key : Key
+  pub read : Option Data → Result Value SceneErr
+  pub put : Value → S → S
+
+-- The keys of a table, one after the other: all that they give, or the fault of the first that is refused.
+abbrev pub read_keys : {S : Type 0} → List (Reading S) → Members → S → Result S SceneErr
+read_keys [] ms s = Ok s
+read_keys (reading ∷ more) ms s =
+    and_then (reading.read (get_member reading.key.name ms)) (λ value. read_keys more ms (reading.put value s))
+
+-- why something is refused, where it is
+abbrev pub refusal : {T : Type 0} → Result T SceneErr → Option SceneErr
+refusal (Ok value) = None
+refusal (Err fault) = Some fault
+
+-- the refusal of the first key that is refused, in the list's order
+abbrev pub first_refusal : {S : Type 0} → List (Reading S) → Members → Option SceneErr
+first_refusal [] ms = None
+first_refusal (reading ∷ more) ms =
+    option_or (refusal (reading.read (get_member reading.key.name ms))) (first_refusal more ms)
+
+abbrev pub integer_key : {S : Type 0} → Section → List ℕ → Range → (ℤ → S → S) → Reading S
+integer_key section name range put =
+    record { Value = ℤ; key = key name range; read = integer_of section (key name range); put = put }
+
+abbrev pub text_key : {S : Type 0} → Section → List ℕ → Range → (List ℕ → S → S) → Reading S
+text_key section name range put =
+    record { Value = List ℕ; key = key name range; read = text_of section (key name range); put = put }
+
+-- a vector that may be absent
+abbrev pub vector_key : {S : Type 0} → Section → List ℕ → Range → V3 → (V3 → S → S) → Reading S
+vector_key section name range absent put =
+    record { Value = V3; key = key name range; read = vector_of section (key name range) absent; put = put }
+
+abbrev pub material_keys : List (Reading Material)
+material_keys =
+    integer_key sections.Material (codes "density") DENSITIES (λ n m. record m { density = n })
+    ∷ integer_key sections.Material (codes "mu") ZERO (λ n m. record m { mu = n })
+    ∷ integer_key sections.Material (codes "lambda") ZERO (λ n m. record m { lambda = n })
+    ∷ []
+
+-- a material at rest, of which nothing else is read yet
+abbrev pub no_material : Material
+no_material = record { density = pos 0; mu = pos 0; lambda = pos 0; fixed = false; velocity = origin }
+
+-- the table of the material
+abbrev pub material : Key
+material = key (codes "material") ZERO
+
+-- the material that its table gives
+abbrev pub material_of : Option Data → Result Material SceneErr
+material_of (Some (table members)) = read_keys material_keys members no_material
+material_of (Some _) = Err (WrongType (printed sections.Top material.name))
+material_of None = Err (Missing (printed sections.Top material.name))
+
+abbrev pub scene_keys : List (Reading Scene)
+scene_keys =
+    text_key sections.Top (codes "mesh") NAME_LENGTHS (λ text s. record s { mesh = text })
+    ∷ text_key sections.Top (codes "out") NAME_LENGTHS (λ text s. record s { out = text })
+    ∷ integer_key sections.Top (codes "digits") ZERO (λ n s. record s { digits = unsigned_abs n })
+    ∷ integer_key sections.Top (codes "frames") FRAME_COUNTS (λ n s. record s { frames = unsigned_abs n })
+    ∷ integer_key sections.Top (codes "budget") BUDGETS (λ n s. record s { budget = unsigned_abs n })
+    ∷ integer_key sections.Top (codes "tol") TOLERANCES (λ n s. record s { tol = n })
+    ∷ vector_key sections.Top (codes "gravity") GRAVITIES origin (λ v s. record s { numbers = record s.numbers { gravity = v } })
+    ∷ integer_key sections.Top (codes "dhat") CONTACT_DISTANCES (λ n s. record s { numbers = record s.numbers { dhat = n } })
+    ∷ integer_key sections.Top (codes "kappa") STIFFNESSES (λ n s. record s { numbers = record s.numbers { kappa = n } })
+    ∷ record {
+      Value = Material;
+      key = material;
+      read = material_of;
+      put = λ base s. record s { numbers = record s.numbers { base = base } };
+    }
+    ∷ []
+
+-- a scene of which nothing is read yet
+abbrev pub no_numbers : Numbers
+no_numbers = record { base = no_material; parts = []; kappa = pos 0; dhat = pos 0; gravity = origin }
+
+abbrev pub no_scene : Scene
+no_scene = record { mesh = []; out = []; digits = 0; frames = 0; budget = 0; tol = pos 0; numbers = no_numbers }
+
+-- the keys that a table may have are those that are read in it
+abbrev pub keys_in : Section → List Key
+keys_in sections.Top = map (λ reading. reading.key) scene_keys
+keys_in sections.Material = map (λ reading. reading.key) material_keys
+
+abbrev pub is_known : Section → List ℕ → Bool
+is_known section name = list_any (λ key. bytes_eq key.name name) (keys_in section)
