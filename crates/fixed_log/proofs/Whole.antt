@@ -44,14 +44,14 @@ pub mantissa-is : (m k : ℕ) → IsWhole m k → IsMantissa m k (mantissa m k)
 mantissa-is m k h = elim (cases_lt 61 k) [
   | inl past ↦
       let t : leb k 61 ≡ false = grind (arith, nat_tests) in
-      rw t (shrunk (2 ^ (k - 61)) (pow_pos (k - 61)) (joined (k - 61) 61 k (omega arith)) (next h.next))
+      rw t (shrunk (2 ^ (k - 61)) (pow_pos (k - 61)) (product_of_powers (k - 61) 61 k (omega arith)) (next h.next))
   | inr within ↦
       let t : leb k 61 ≡ true = grind (arith, nat_tests) in
-      rw t (grown (2 ^ (61 - k)) (pow_pos (61 - k)) (joined (61 - k) k 61 (omega arith)) (next h.next))
+      rw t (grown (2 ^ (61 - k)) (pow_pos (61 - k)) (product_of_powers (61 - k) k 61 (omega arith)) (next h.next))
 ]
   where
-    joined : (a b n : ℕ) → a + b ≡ n → 2 ^ a * 2 ^ b ≡ 2 ^ n
-    joined a b n e = sym (pow-add 2 a b) ∙ ap (λ i. 2 ^ i) e
+    product_of_powers : (a b n : ℕ) → a + b ≡ n → 2 ^ a * 2 ^ b ≡ 2 ^ n
+    product_of_powers a b n e = sym (pow-add 2 a b) ∙ ap (λ i. 2 ^ i) e
 
     next : m < 2 ^ (k + 1) → m < 2 * 2 ^ k
     next h = omega (arith, pow-add 2 k 1)

@@ -1,7 +1,7 @@
 use Rattle.std.proofs.Common.{◌≡◌, ◌-◌, ◌*◌, ◌%◌, ◌^◌, ◌<◌, sym, ◌∙◌, subst, arith}
 use Rattle.std.proofs.Math.Nat.{mod-eq_of_lt}
 use Rattle.fixed_log.proofs.Whole.{mantissa-is, mantissa-within, mantissa-past}
-use Rattle.fixed_log.proofs.logarithm.mantissa_of.Goals as goal
+use Rattle.fixed_log.proofs.logarithm.mantissa.Goals as goal
 
 pub overflow_cast-result-else-whole-le61-2 : goal.overflow_cast-result-else-whole-le61-2
 overflow_cast-result-else-whole-le61-2 c =

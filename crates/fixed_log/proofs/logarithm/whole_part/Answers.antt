@@ -1,7 +1,7 @@
 use Rattle.std.proofs.Common.{refl}
 use Rattle.fixed_log.specs.Logarithm.{whole_lg}
 use Rattle.fixed_log.proofs.Whole.{whole_lg-is}
-use Rattle.fixed_log.proofs.logarithm.whole_of.Goals as goal
+use Rattle.fixed_log.proofs.logarithm.whole_part.Goals as goal
 
 pub returns : goal.returns
 unfolding whole_lg

@@ -2,8 +2,8 @@ use Rattle.std.proofs.Common.{◌≡◌, ◌+◌, ◌-◌, ◌^◌, ap, ◌∙�
 use Rattle.fixed_log.specs.Logarithm.{lg_bits}
 use Rattle.fixed_log.proofs.Bits.{lg_bits-zero, turn-high, turn-low, shifted_bit, bit_at_most}
 use Rattle.fixed_log.proofs.Monotone.{lg_bits-lt}
-use Rattle.fixed_log.proofs.logarithm.bits_of.Goals as goal
-use Rattle.fixed_log.proofs.logarithm.bits_of.Goals.{then-z, else-z}
+use Rattle.fixed_log.proofs.logarithm.bits_behind.Goals as goal
+use Rattle.fixed_log.proofs.logarithm.bits_behind.Goals.{then-z, else-z}
 
 pub overflow_add-bits : goal.overflow_add-bits
 overflow_add-bits c =

@@ -1,6 +1,6 @@
 use Rattle.std.proofs.Common.{◌≡◌, ◌+◌, ◌-◌, ◌^◌, ◌<◌}
 use Rattle.fixed_log.specs.Logarithm.{lg_bits}
-use Rattle.fixed_log.proofs.logarithm.bits_of.Given as goal
+use Rattle.fixed_log.proofs.logarithm.bits_behind.Given as goal
 
 abbrev pub invariant-loop-turn : goal.invariant-loop-turn
 invariant-loop-turn l = record {
