@@ -1,5 +1,5 @@
 -- Two lists of points meet exactly where no plane serves all their differences.
-use Rattle.std.proofs.Common.{◌≡◌, ℕ, ◌+◌, ◌*◌, ◌<◌, ◌≤◌, ◌^◌, ℤ, pos, negsuc, ◌+ℤ◌, ◌-ℤ◌, ◌*ℤ◌, ◌<ℤ◌, List, [], ◌∷◌, ◌++◌, ◌⊎◌, inl, inr, length, refl, sym, ◌∙◌, ap, subst, arith, unsigned_abs, IsTrue}
+use Rattle.std.proofs.Common.{◌≡◌, ℕ, ◌+◌, ◌*◌, ◌<◌, ◌≤◌, ◌^◌, ℤ, pos, negsuc, ◌+ℤ◌, ◌-ℤ◌, ◌*ℤ◌, ◌<ℤ◌, List, [], ◌∷◌, ◌++◌, ◌⊎◌, inl, inr, length, refl, sym, ◌∙◌, ap, subst, arith, unsigned_abs, IsTrue, lit≤}
 use Rattle.std.proofs.lemmas.Int.{ints}
 use Rattle.std.specs.Prelude.{◌↔◌}
 use Rattle.std.proofs.Common.{take, set, get_or, append_assoc, Bool, true, false, not}
@@ -11,11 +11,12 @@ use Rattle.space3.specs.declared.vectors.V3.{V3}
 use Rattle.space3.specs.Vectors.{origin, sum_of, difference, dot_product, Within}
 use Rattle.space3.specs.Weights.{weighted_sum}
 use Rattle.safe_motion.specs.Meeting.{Meets, Separates}
+use Rattle.space3.proofs.Bounds.{within-difference}
 use Rattle.list_laws.proofs.Elements.{All-map_back, All-append_left, All-append_right}
 use Rattle.whole_laws.proofs.Ring.{ring, v, ◌⊕◌, ◌⊗◌}
 use Rattle.whole_laws.proofs.Order.{size_diff}
 use Rattle.plane_cut.specs.Planes.{HasPlane}
-use Rattle.plane_cut.specs.Differences.{differences, differences_from}
+use Rattle.plane_cut.specs.Calls.Differences.{differences, differences_from}
 use Rattle.plane_cut.proofs.Linear.{mixed, same_vector}
 use Rattle.plane_cut.proofs.Elimination.{plane_or_zero}
 use Rattle.plane_cut.proofs.Weights.{mixed_weights, length-mixed, sum-mixed, weighted-mixed, some_mixed, IsOne, each_one}
@@ -124,20 +125,10 @@ row_put rows front a d ys m j r lm lj e h =
     take-set_at rows m (m + 1) r refl lm ∙ (λ t. h t ++ e t ∷ []) ∙ append_assoc front (differences_from a (take j ys)) (difference a (get_or ys j d) ∷ [])
     ∙ ap (λ zs. front ++ zs) (sym (differences_more a d ys j lj))
 
-within_difference : (a b : V3) → Within (2 ^ 28) a → Within (2 ^ 28) b → Within (2 ^ 29) (difference a b)
-within_difference a b f g = record {
-  x = record { bound = wider a.x b.x f.x.bound g.x.bound };
-  y = record { bound = wider a.y b.y f.y.bound g.y.bound };
-  z = record { bound = wider a.z b.z f.z.bound g.z.bound };
-}
-  where
-    wider : (a b : ℤ) → unsigned_abs a ≤ 2 ^ 28 → unsigned_abs b ≤ 2 ^ 28 → unsigned_abs (a -ℤ b) ≤ 2 ^ 29
-    wider a b h k = omega (arith, size_diff a b)
-
 pub differences_within : (xs ys : List V3) → All (Within (2 ^ 28)) xs → All (Within (2 ^ 28)) ys → All (Within (2 ^ 29)) (differences xs ys)
 differences_within xs ys h k =
     All-differences (Within (2 ^ 29)) xs ys
-    (All-weaker (Within (2 ^ 28)) (λ a. All (λ b. Within (2 ^ 29) (difference a b)) ys) (λ a f. All-weaker (Within (2 ^ 28)) (λ b. Within (2 ^ 29) (difference a b)) (λ b g. within_difference a b f g) ys k) xs h)
+    (All-weaker (Within (2 ^ 28)) (λ a. All (λ b. Within (2 ^ 29) (difference a b)) ys) (λ a f. All-weaker (Within (2 ^ 28)) (λ b. Within (2 ^ 29) (difference a b)) (λ b g. within-difference (2 ^ 28) (2 ^ 28) (2 ^ 29) a b f g (lit≤ tt)) ys k) xs h)
 
 -- ---- the answer
 meeting_from : (xs ys : List V3) → ¬ (HasPlane (differences xs ys)) → Meets xs ys

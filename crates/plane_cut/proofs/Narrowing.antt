@@ -12,10 +12,10 @@ use Rattle.whole_laws.proofs.Order.{mul_pos_ℤ, add_pos_ℤ, nonneg_of_pos, cle
 use Rattle.std.specs.Prelude.{int_lt, Some, None}
 use Rattle.std.proofs.Common.{unsigned_abs, ◌^◌, to_z, of_z, w64, lit<, true, false}
 use Rattle.plane_cut.specs.Planes.{IsPlane, HasPlane}
-use Rattle.plane_cut.specs.Flat.{combined, flattened, ServesFlat, ServesPair, ServesPairs}
+use Rattle.plane_cut.specs.Calls.Elimination.{combined, flattened, ServesFlat, ServesPair, ServesPairs}
 use Rattle.plane_cut.specs.declared.cones.Cone.{Cone}
 use Rattle.plane_cut.specs.declared.cones.Cone.TheVariants.{Empty}
-use Rattle.plane_cut.specs.Cones.{corners, IsCone, Narrows, NarrowsOrNone}
+use Rattle.plane_cut.specs.Calls.Cones.{corners, IsCone, Narrows, NarrowsOrNone}
 use Rattle.plane_cut.proofs.Linear.{axis_z}
 use Rattle.plane_cut.proofs.Step.{Flat, Agree}
 use Rattle.plane_cut.proofs.Elimination.{lifted}

@@ -7,11 +7,11 @@ use Rattle.space3.specs.Vectors.{origin, vector, dot_product}
 use Rattle.whole_laws.proofs.Ring.{ring, v, num, neg, ◌⊕◌, ◌⊖◌, ◌⊗◌}
 use Rattle.whole_laws.proofs.Order.{mul_pos_ℤ, mul_nonneg_ℤ, pos_of_mul_ℤ, nonneg_of_pos, add_pos_ℤ}
 use Rattle.plane_cut.specs.Planes.{IsPlane, HasPlane}
-use Rattle.plane_cut.specs.Flat.{turn_of}
+use Rattle.plane_cut.specs.Calls.Elimination.{turn_of}
 use Rattle.plane_cut.specs.declared.rows.Flat.{Flat}
 use Rattle.plane_cut.specs.declared.cones.Cone.{Cone}
 use Rattle.plane_cut.specs.declared.cones.Cone.TheVariants.{Empty, Ray, Wedge}
-use Rattle.plane_cut.specs.Cones.{as_row, corners, IsCone, Narrows}
+use Rattle.plane_cut.specs.Calls.Cones.{as_row, corners, IsCone, Narrows}
 
 -- the product of n with a flat row
 abbrev at : V3 → Flat → ℤ

@@ -1,4 +1,2 @@
-pub mod Cones
-pub mod Differences
-pub mod Flat
+pub mod Calls
 pub mod Planes

@@ -2,8 +2,8 @@
 //! outermost rows: the second variable is eliminated between these and each further row.
 ghost use Rattle.std.specs.Prelude.{◌≡◌, ◌^◌, ◌<◌, ◌≤◌, pos, ◌<ℤ◌, ◌≤ℤ◌, ◌-ℤ◌, ◌+ℤ◌, ◌*ℤ◌, unsigned_abs};
 ghost use Rattle.space3.specs.Vectors.{dot_product};
-ghost use Rattle.plane_cut.specs.Flat.{turn_of};
-ghost use Rattle.plane_cut.specs.Cones.{as_row, IsCone, NarrowsOrNone};
+ghost use Rattle.plane_cut.specs.Calls.Elimination.{turn_of};
+ghost use Rattle.plane_cut.specs.Calls.Cones.{as_row, IsCone, NarrowsOrNone};
 
 use crate::rows::Flat;
 use num_q::Q;
@@ -17,41 +17,16 @@ pub enum Cone {
     Wedge(Flat, Flat),
 }
 
-/// The raw number, which has at most 60 bits: a product of such numbers is one instruction.
-fn short(a: Q<0, 60>) -> i64
-    requires { unsigned_abs a.raw ≤ 2 ^ 59 }
-    ensures { result ≡ a.raw }
+/// The cone of one more row, or None where no plane serves that row too.
+pub fn narrowed(cone: Cone, row: Flat) -> Option<Cone>
+    requires { IsCone cone }
+    ensures { NarrowsOrNone cone (λ n. pos 0 <ℤ dot_product n (as_row row)) result }
 {
-    a.raw() as i64
-}
-
-fn times(a: i64, b: i64) -> Q<0, 119>
-    requires left { unsigned_abs a ≤ 2 ^ 59 }
-    requires right { unsigned_abs b ≤ 2 ^ 59 }
-    ensures { result.raw ≡ a *ℤ b }
-{
-    Q::of_raw(a as i128 * b as i128)
-}
-
-fn product(a: Q<0, 60>, b: Q<0, 60>) -> Q<0, 119>
-    requires left { unsigned_abs a.raw ≤ 2 ^ 59 }
-    requires right { unsigned_abs b.raw ≤ 2 ^ 59 }
-    ensures { result.raw ≡ a.raw *ℤ b.raw }
-{
-    times(short(a), short(b))
-}
-
-/// How far b lies to the left of a: what is left of both rows when the second variable is eliminated.
-fn turn(a: Flat, b: Flat) -> Q<0, 120>
-    ensures { result.raw ≡ turn_of (as_row a) (as_row b) }
-{
-    product(a.x, b.y).sub_into(product(a.y, b.x))
-}
-
-fn scalar(a: Flat, b: Flat) -> Q<0, 120>
-    ensures { result.raw ≡ a.x.raw *ℤ b.x.raw +ℤ a.y.raw *ℤ b.y.raw }
-{
-    product(a.x, b.x).add_into(product(a.y, b.y))
+    match cone {
+        Cone::Empty => ray(row),
+        Cone::Ray(only) => opened(only, row),
+        Cone::Wedge(low, high) => widened(low, high, row),
+    }
 }
 
 fn ray(row: Flat) -> Option<Cone>
@@ -103,14 +78,39 @@ fn widened(low: Flat, high: Flat, row: Flat) -> Option<Cone>
     }
 }
 
-/// The cone of one more row, or None where no plane serves that row too.
-pub fn narrowed(cone: Cone, row: Flat) -> Option<Cone>
-    requires { IsCone cone }
-    ensures { NarrowsOrNone cone (λ n. pos 0 <ℤ dot_product n (as_row row)) result }
+/// How far b lies to the left of a: what is left of both rows when the second variable is eliminated.
+fn turn(a: Flat, b: Flat) -> Q<0, 120>
+    ensures { result.raw ≡ turn_of (as_row a) (as_row b) }
 {
-    match cone {
-        Cone::Empty => ray(row),
-        Cone::Ray(only) => opened(only, row),
-        Cone::Wedge(low, high) => widened(low, high, row),
-    }
+    product(a.x, b.y).sub_into(product(a.y, b.x))
+}
+
+fn scalar(a: Flat, b: Flat) -> Q<0, 120>
+    ensures { result.raw ≡ a.x.raw *ℤ b.x.raw +ℤ a.y.raw *ℤ b.y.raw }
+{
+    product(a.x, b.x).add_into(product(a.y, b.y))
+}
+
+fn product(a: Q<0, 60>, b: Q<0, 60>) -> Q<0, 119>
+    requires left { unsigned_abs a.raw ≤ 2 ^ 59 }
+    requires right { unsigned_abs b.raw ≤ 2 ^ 59 }
+    ensures { result.raw ≡ a.raw *ℤ b.raw }
+{
+    times(short(a), short(b))
+}
+
+fn times(a: i64, b: i64) -> Q<0, 119>
+    requires left { unsigned_abs a ≤ 2 ^ 59 }
+    requires right { unsigned_abs b ≤ 2 ^ 59 }
+    ensures { result.raw ≡ a *ℤ b }
+{
+    Q::of_raw(a as i128 * b as i128)
+}
+
+/// The raw number, which has at most 60 bits: a product of such numbers is one instruction.
+fn short(a: Q<0, 60>) -> i64
+    requires { unsigned_abs a.raw ≤ 2 ^ 59 }
+    ensures { result ≡ a.raw }
+{
+    a.raw() as i64
 }

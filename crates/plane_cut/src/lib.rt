@@ -9,5 +9,5 @@ mod planes;
 mod rows;
 
 pub use laws::{plane_excludes_weights, plane_or_weights, separated_or_meeting};
-pub use meeting::meets;
-pub use planes::{Tally, has_plane};
+pub use meeting::{FIRST_LIMIT, meets};
+pub use planes::{COMPONENT_LIMIT, ROW_LIMIT, Tally, has_plane};

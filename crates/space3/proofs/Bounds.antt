@@ -5,26 +5,12 @@ use Rattle.whole_laws.proofs.Order.{size_sum, size_diff, size_prod, size_back, c
 use Rattle.space3.specs.declared.vectors.V3.{V3}
 use Rattle.space3.specs.Vectors.{AtMost, Within, determinant, difference, multiple, sum_of}
 
--- an edge between places in the box
-pub within-difference : (a b : V3) → Within (2 ^ 20) a → Within (2 ^ 20) b → Within (2 ^ 21) (difference a b)
-within-difference a b h k = record { x = less a.x b.x h.x k.x; y = less a.y b.y h.y k.y; z = less a.z b.z h.z k.z }
+-- a greater bound
+pub within_more : (m n : ℕ) (a : V3) → Within m a → m ≤ n → Within n a
+within_more m n a h l = record { x = each a.x h.x; y = each a.y h.y; z = each a.z h.z }
   where
-    less : (a b : ℤ) → AtMost (2 ^ 20) a → AtMost (2 ^ 20) b → AtMost (2 ^ 21) (a -ℤ b)
-    less a b h k = record { bound = omega (arith, size_diff a b, h.bound, k.bound) }
-
--- a determinant of such edges
-pub determinant_size : (a b c : V3) → Within (2 ^ 21) a → Within (2 ^ 21) b → Within (2 ^ 21) c → AtMost (2 ^ 66) (determinant a b c)
-determinant_size a b c h k l =
-    three (times h.x (minor k.y l.z k.z l.y)) (times h.y (minor k.z l.x k.x l.z)) (times h.z (minor k.x l.y k.y l.x))
-  where
-    minor : {p q r s : ℤ} → AtMost (2 ^ 21) p → AtMost (2 ^ 21) q → AtMost (2 ^ 21) r → AtMost (2 ^ 21) s → AtMost (2 ^ 43) (p *ℤ q -ℤ r *ℤ s)
-    minor {p} {q} {r} {s} h k l m = record { bound = omega (arith, size_diff (p *ℤ q) (r *ℤ s), size_prod p q (2 ^ 21) (2 ^ 21) h.bound k.bound, size_prod r s (2 ^ 21) (2 ^ 21) l.bound m.bound) }
-
-    times : {p q : ℤ} → AtMost (2 ^ 21) p → AtMost (2 ^ 43) q → AtMost (2 ^ 64) (p *ℤ q)
-    times {p} {q} h k = record { bound = size_prod p q (2 ^ 21) (2 ^ 43) h.bound k.bound }
-
-    three : {p q r : ℤ} → AtMost (2 ^ 64) p → AtMost (2 ^ 64) q → AtMost (2 ^ 64) r → AtMost (2 ^ 66) (p +ℤ q +ℤ r)
-    three {p} {q} {r} h k l = record { bound = omega (arith, size_sum (p +ℤ q) r, size_sum p q, h.bound, k.bound, l.bound) }
+    each : (a : ℤ) → AtMost m a → AtMost n a
+    each a h = record { bound = omega (arith, h.bound) }
 
 -- a sum of two vectors
 pub within-sum : (m n b : ℕ) (a d : V3) → Within m a → Within n d → m + n ≤ b → Within b (sum_of a d)
@@ -32,6 +18,33 @@ within-sum m n b a d h k l = record { x = each a.x d.x h.x k.x; y = each a.y d.y
   where
     each : (a d : ℤ) → AtMost m a → AtMost n d → AtMost b (a +ℤ d)
     each a d h k = record { bound = omega (arith, size_sum a d, h.bound, k.bound) }
+
+-- a difference of two vectors
+pub within-difference : (m n b : ℕ) (a d : V3) → Within m a → Within n d → m + n ≤ b → Within b (difference a d)
+within-difference m n b a d h k l = record { x = each a.x d.x h.x k.x; y = each a.y d.y h.y k.y; z = each a.z d.z h.z k.z }
+  where
+    each : (a d : ℤ) → AtMost m a → AtMost n d → AtMost b (a -ℤ d)
+    each a d h k = record { bound = omega (arith, size_diff a d, h.bound, k.bound) }
+
+-- a determinant of three vectors: six products of three components
+pub determinant_size : (m b : ℕ) (a d e : V3) → Within m a → Within m d → Within m e → 3 * (m * (m * m + m * m)) ≤ b → AtMost b (determinant a d e)
+determinant_size m b a d e h k l room =
+    three (times h.x (minor k.y l.z k.z l.y)) (times h.y (minor k.z l.x k.x l.z)) (times h.z (minor k.x l.y k.y l.x))
+  where
+    minor : {p q r s : ℤ} → AtMost m p → AtMost m q → AtMost m r → AtMost m s → AtMost (m * m + m * m) (p *ℤ q -ℤ r *ℤ s)
+    minor {p} {q} {r} {s} h k l t = record { bound = less (p *ℤ q) (r *ℤ s) (m * m) (size_prod p q m m h.bound k.bound) (size_prod r s m m l.bound t.bound) }
+      where
+        less : (a b : ℤ) (n : ℕ) → unsigned_abs a ≤ n → unsigned_abs b ≤ n → unsigned_abs (a -ℤ b) ≤ n + n
+        less a b n h k = omega (arith, size_diff a b)
+
+    times : {p q : ℤ} → AtMost m p → AtMost (m * m + m * m) q → AtMost (m * (m * m + m * m)) (p *ℤ q)
+    times {p} {q} h k = record { bound = size_prod p q m (m * m + m * m) h.bound k.bound }
+
+    three : {p q r : ℤ} → AtMost (m * (m * m + m * m)) p → AtMost (m * (m * m + m * m)) q → AtMost (m * (m * m + m * m)) r → AtMost b (p +ℤ q +ℤ r)
+    three {p} {q} {r} h k l = record { bound = sum p q r (m * (m * m + m * m)) h.bound k.bound l.bound room }
+      where
+        sum : (p q r : ℤ) (n : ℕ) → unsigned_abs p ≤ n → unsigned_abs q ≤ n → unsigned_abs r ≤ n → 3 * n ≤ b → unsigned_abs (p +ℤ q +ℤ r) ≤ b
+        sum p q r n h k l room = omega (arith, size_sum (p +ℤ q) r, size_sum p q)
 
 -- a product that goes to its bits and back
 pub product_size : (k : ℕ) (a : ℤ) → k < 2 ^ 16 → unsigned_abs a ≤ 2 ^ 20 → unsigned_abs (to_z w64 (of_z w64 (to_z w64 k *ℤ to_z w64 (of_z w64 a)))) ≤ k * 2 ^ 20

@@ -3,6 +3,7 @@
 //! A mesh is seen as three lists: node numbers, places, tetrahedra.
 #![tactic(auto)]
 
+mod boxes;
 mod lists;
 mod mesh;
 mod places;
@@ -10,12 +11,13 @@ mod spots;
 mod vectors;
 mod ways;
 
+pub use boxes::{
+    BoundingBox, are_within, box_around, box_around_is_of_joined_list, box_corners_keep_bounds,
+    box_of, boxes_touch_at_reach_zero,
+};
 pub use lists::{NodeNumbers, Tags, Tet, TetList};
-pub use mesh::{Mesh, edge, rest_det};
+pub use mesh::{Mesh, NODE_LIMIT, NUMBER_LIMIT, TAG_LIMIT, TET_LIMIT, edge, rest_det};
 pub use places::{BOX_LIMIT, Places};
-pub use spots::{Part, Spot};
-pub use vectors::{V3, W3, cross, det, dot, dot_wide, sub};
-pub use ways::{at_scale, halved};
-
-#[cfg(test)]
-mod tests;
+pub use spots::{Part, SPOT_LIMIT, Spot};
+pub use vectors::{CROSS_LIMIT, V3, VECTOR_LIMIT, W3, cross, det, dot, dot_wide, sub};
+pub use ways::{DIRECTION_LIMIT, FINE_LIMIT, HALVING_LIMIT, SCALE_LIMIT, at_scale, halved};

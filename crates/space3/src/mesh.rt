@@ -1,11 +1,24 @@
 //! A mesh of tetrahedra.
-ghost use Rattle.std.specs.Prelude.{◌≡◌, ◌<◌, ◌^◌, length};
+ghost use Rattle.std.specs.Prelude.{◌≡◌, ◌<◌, ◌*◌, ◌^◌, length};
 ghost use Rattle.space3.specs.Mesh.{rest_determinant, place_of, HasNodes};
 ghost use Rattle.space3.specs.Vectors.{AtMost, Within, difference};
 
 use crate::lists::{NodeNumbers, Tet, TetList};
-use crate::places::Places;
+use crate::places::{BOX_LIMIT, Places};
 use crate::vectors::{V3, det, sub};
+
+/// The most nodes of a mesh, 2^14: sums over all nodes keep their widths.
+pub const NODE_LIMIT: u32 = 16_384;
+
+/// The most tetrahedra of a mesh, 2^16: sums over all tetrahedra keep their widths.
+pub const TET_LIMIT: u32 = 65_536;
+
+/// The most tags of a tetrahedron.
+pub const TAG_LIMIT: u32 = 255;
+
+/// The greatest number of a node or an element, and the greatest absolute value of a tag: they are whole numbers of
+/// 32 bits with a sign.
+pub const NUMBER_LIMIT: u32 = 2_147_483_647;
 
 /// A mesh as three lists in the file's order: the nodes' numbers, their places, and the tetrahedra.
 #[derive(Drop)]
@@ -15,12 +28,12 @@ pub struct Mesh {
     pub tets: TetList,
 }
 
-/// The edge from one node to another, in grid units. Components are at most 2^21 in absolute value.
+/// The edge from one node to another, in grid units. Components are at most twice the limit of the box.
 pub fn edge(places: &Places, from: u32, to: u32) -> V3
     requires from { from < length places.now }
     requires to { to < length places.now }
     ensures value { result ≡ difference (place_of places.now to) (place_of places.now from) }
-    ensures bound { Within (2 ^ 21) result }
+    ensures bound { Within (2 * BOX_LIMIT) result }
 {
     sub(places.get(to), places.get(from))
 }

@@ -5,14 +5,15 @@ ghost use Rattle.space3.specs.Box.{IsInTheBox};
 ghost use Rattle.space3.specs.Moved.{halved, moved_by};
 
 use crate::vectors::V3;
-use crate::ways::{added, halved};
+use crate::ways::{DIRECTION_LIMIT, HALVING_LIMIT, halved, sum_of};
 use std::alloc::{AllocError, Global};
 use std::marker::Model;
 
-/// The greatest absolute value of a place's component, in grid units.
-pub const BOX_LIMIT: i64 = 1_048_576;
+/// The greatest absolute value of a place's component, in grid units: 2^20. So an edge has at most 21 bits and a
+/// sign, and a place at the finest scale fits 29 bits.
+pub const BOX_LIMIT: u32 = 1_048_576;
 
-/// Places of nodes in grid units, each component at most 2^20 in absolute value.
+/// Places of nodes in the box, in grid units.
 #[derive(Drop)]
 pub struct Places {
     list: Vec<V3>,
@@ -31,9 +32,9 @@ impl Model for Places {
 }
 
 fn is_in_limit(a: i64) -> bool
-    ensures { IsTrue result ↔ AtMost (2 ^ 20) a }
+    ensures { IsTrue result ↔ AtMost BOX_LIMIT a }
 {
-    -BOX_LIMIT <= a && a <= BOX_LIMIT
+    a.unsigned_abs() <= u64::from(BOX_LIMIT)
 }
 
 fn is_in_box(place: V3) -> bool
@@ -51,19 +52,19 @@ fn are_in_box(list: &[V3]) -> bool
 // The place after a move along the direction, which is halved so many times.
 fn moved_place(place: V3, dir: V3, half: u8) -> V3
     requires place { IsInTheBox place }
-    requires direction { Within (2 ^ 21 - 1) dir }
-    requires half { half ≤ 20 }
+    requires direction { Within DIRECTION_LIMIT dir }
+    requires half { half ≤ HALVING_LIMIT }
     ensures { result ≡ sum_of place (halved half dir) }
 {
-    added(place, halved(dir, half))
+    sum_of(place, halved(dir, half))
 }
 
 // The places after a move along the directions, which are halved so many times.
 fn moved_places(alloc: Global, places: &[V3], dir: &[V3], half: u8) -> Result<Vec<V3>, AllocError>
     requires as_many { length dir.now ≡ length places.now }
     requires places { All IsInTheBox places.now }
-    requires directions { All (Within (2 ^ 21 - 1)) dir.now }
-    requires half { half ≤ 20 }
+    requires directions { All (Within DIRECTION_LIMIT) dir.now }
+    requires half { half ≤ HALVING_LIMIT }
     ensures { IfOk result (λ made. made.items ≡ moved_by places.now dir.now half) }
 {
     let mut made = Vec::with_capacity(alloc, places.len())?;
@@ -103,9 +104,10 @@ impl Places {
         Ok(Some(Places { list }))
     }
 
-    /// The places, in order.
+    /// The places, in order, each in the box.
     pub fn items(&self) -> &[V3]
-        ensures { result.now ≡ self.now }
+        ensures places { result.now ≡ self.now }
+        ensures in_box { All IsInTheBox result.now }
     {
         self.list.as_slice()
     }
@@ -118,13 +120,14 @@ impl Places {
         Ok(Places { list })
     }
 
-    /// These places after a move along their directions, which are divided by 2 so many times, at most 20, and cut
-    /// towards zero; None exactly where a component leaves the box. There is one direction for each place, in grid
-    /// units, with components below 2^21 in absolute value. It asks for memory once.
+    /// These places after a move along their directions, which are divided by 2 so many times, at most
+    /// [`HALVING_LIMIT`], and cut towards zero; None exactly where a component leaves the box. There is one direction
+    /// for each place, in grid units, with components of at most [`DIRECTION_LIMIT`] in absolute value. It asks for
+    /// memory once.
     pub fn moved(&self, alloc: Global, dir: &[V3], half: u8) -> Result<Option<Self>, AllocError>
         requires as_many { length dir.now ≡ length self.now }
-        requires directions { All (Within (2 ^ 21 - 1)) dir.now }
-        requires half { half ≤ 20 }
+        requires directions { All (Within DIRECTION_LIMIT) dir.now }
+        requires half { half ≤ HALVING_LIMIT }
         ensures places { IfOk result (λ made. IfSome made (λ p. p ≡ moved_by self.now dir.now half)) }
         ensures in_box { IfOk result (λ made. IsSome made ↔ All IsInTheBox (moved_by self.now dir.now half)) }
     {

@@ -3,6 +3,13 @@ ghost use Rattle.std.specs.Prelude.{◌≡◌, ◌^◌, ◌≤◌, ◌-ℤ◌, �
 ghost use Rattle.space3.specs.Vectors.{AtMost, Within, difference, dot_product, cross_product, determinant};
 ghost use Rattle.space3.specs.Wide.{unbounded};
 
+/// The greatest absolute value of a component that is multiplied: 2^30. So a determinant, a sum of six products of
+/// three components, stays far below 2^127.
+pub const VECTOR_LIMIT: u32 = 1_073_741_824;
+
+/// The greatest absolute value of a component of a cross product of such vectors: 2^61.
+pub const CROSS_LIMIT: u64 = 2_305_843_009_213_693_952;
+
 /// A vector of whole numbers, in grid units.
 #[derive(Clone, Copy, PartialEq, Eq, Debug)]
 pub struct V3 {
@@ -26,8 +33,8 @@ fn times(a: i64, b: i64) -> i128
 }
 
 fn times_wide(a: i64, b: i128) -> i128
-    requires left { AtMost (2 ^ 30) a }
-    requires right { AtMost (2 ^ 62) b }
+    requires left { AtMost VECTOR_LIMIT a }
+    requires right { AtMost CROSS_LIMIT b }
     ensures { result ≡ a *ℤ b }
 {
     a as i128 * b
@@ -50,17 +57,17 @@ fn minus(a: i128, b: i128) -> i128
 }
 
 fn less(a: i64, b: i64) -> i64
-    requires left { AtMost (2 ^ 30) a }
-    requires right { AtMost (2 ^ 30) b }
+    requires left { AtMost VECTOR_LIMIT a }
+    requires right { AtMost VECTOR_LIMIT b }
     ensures { result ≡ a -ℤ b }
 {
     a - b
 }
 
-/// The difference `a − b`. Components are at most 2^30 in absolute value.
+/// The difference `a − b`. Components are at most [`VECTOR_LIMIT`] in absolute value.
 pub fn sub(a: V3, b: V3) -> V3
-    requires left { Within (2 ^ 30) a }
-    requires right { Within (2 ^ 30) b }
+    requires left { Within VECTOR_LIMIT a }
+    requires right { Within VECTOR_LIMIT b }
     ensures { result ≡ difference a b }
 {
     V3 {
@@ -72,31 +79,32 @@ pub fn sub(a: V3, b: V3) -> V3
 
 /// The minor `a·d − b·c`.
 fn minor(a: i64, b: i64, c: i64, d: i64) -> i128
-    requires top_left { AtMost (2 ^ 30) a }
-    requires top_right { AtMost (2 ^ 30) b }
-    requires low_left { AtMost (2 ^ 30) c }
-    requires low_right { AtMost (2 ^ 30) d }
+    requires top_left { AtMost VECTOR_LIMIT a }
+    requires top_right { AtMost VECTOR_LIMIT b }
+    requires low_left { AtMost VECTOR_LIMIT c }
+    requires low_right { AtMost VECTOR_LIMIT d }
     ensures value { result ≡ a *ℤ d -ℤ b *ℤ c }
-    ensures bound { AtMost (2 ^ 61) result }
+    ensures bound { AtMost CROSS_LIMIT result }
 {
     minus(times(a, d), times(b, c))
 }
 
-/// The dot product `a · b`. Components are at most 2^30 in absolute value.
+/// The dot product `a · b`. Components are at most [`VECTOR_LIMIT`] in absolute value.
 pub fn dot(a: V3, b: V3) -> i128
-    requires left { Within (2 ^ 30) a }
-    requires right { Within (2 ^ 30) b }
+    requires left { Within VECTOR_LIMIT a }
+    requires right { Within VECTOR_LIMIT b }
     ensures { result ≡ dot_product a b }
 {
     plus(plus(times(a.x, b.x), times(a.y, b.y)), times(a.z, b.z))
 }
 
-/// The cross product `a × b`. Components are at most 2^30 in absolute value, and those of the answer at most 2^61.
+/// The cross product `a × b`. Components are at most [`VECTOR_LIMIT`] in absolute value, and those of the
+/// answer at most [`CROSS_LIMIT`].
 pub fn cross(a: V3, b: V3) -> W3
-    requires left { Within (2 ^ 30) a }
-    requires right { Within (2 ^ 30) b }
+    requires left { Within VECTOR_LIMIT a }
+    requires right { Within VECTOR_LIMIT b }
     ensures value { unbounded result ≡ cross_product a b }
-    ensures bound { Within (2 ^ 61) (unbounded result) }
+    ensures bound { Within CROSS_LIMIT (unbounded result) }
 {
     W3 {
         x: minor(a.y, a.z, b.y, b.z),
@@ -105,11 +113,11 @@ pub fn cross(a: V3, b: V3) -> W3
     }
 }
 
-/// The dot product `a · b` with a cross product. Components of `a` are at most 2^30 in absolute value,
-/// those of `b` at most 2^61.
+/// The dot product `a · b` with a cross product. Components of `a` are at most [`VECTOR_LIMIT`] in absolute value,
+/// those of `b` at most [`CROSS_LIMIT`].
 pub fn dot_wide(a: V3, b: W3) -> i128
-    requires left { Within (2 ^ 30) a }
-    requires right { Within (2 ^ 61) (unbounded b) }
+    requires left { Within VECTOR_LIMIT a }
+    requires right { Within CROSS_LIMIT (unbounded b) }
     ensures { result ≡ dot_product a (unbounded b) }
 {
     plus(
@@ -118,11 +126,11 @@ pub fn dot_wide(a: V3, b: W3) -> i128
     )
 }
 
-/// The determinant `a · (b × c)`. Components are at most 2^30 in absolute value.
+/// The determinant `a · (b × c)`. Components are at most [`VECTOR_LIMIT`] in absolute value.
 pub fn det(a: V3, b: V3, c: V3) -> i128
-    requires first { Within (2 ^ 30) a }
-    requires second { Within (2 ^ 30) b }
-    requires third { Within (2 ^ 30) c }
+    requires first { Within VECTOR_LIMIT a }
+    requires second { Within VECTOR_LIMIT b }
+    requires third { Within VECTOR_LIMIT c }
     ensures { result ≡ determinant a b c }
 {
     dot_wide(a, cross(b, c))

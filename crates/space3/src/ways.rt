@@ -3,24 +3,38 @@ ghost use Rattle.std.specs.Prelude.{◌≡◌, ℕ, ◌*◌, ◌^◌, ◌≤◌,
 ghost use Rattle.space3.specs.Vectors.{AtMost, Within, between, multiple, sum_of};
 ghost use Rattle.space3.specs.Moved.{halved};
 
+use crate::places::BOX_LIMIT;
 use crate::vectors::V3;
+
+/// The finest scale of a straight way, 2^8 parts: certificates divide a step into no more.
+pub const SCALE_LIMIT: u8 = 8;
+
+/// The greatest absolute value of a component of a place in the box at the finest scale, 2^20 times 2^8.
+pub const FINE_LIMIT: u32 = 268_435_456;
+
+/// The greatest absolute value of a component of a direction, in grid units: less than the box is wide, 2^21.
+pub const DIRECTION_LIMIT: u32 = 2_097_151;
+
+/// How often a direction is halved at most: after 20 halvings a component is 1, 0 or -1, and the next would leave
+/// nothing.
+pub const HALVING_LIMIT: u8 = 20;
 
 // k times a.
 fn product(k: u32, a: i64) -> i64
-    requires few { k ≤ 256 }
-    requires near { AtMost (2 ^ 20) a }
+    requires few { k ≤ 2 ^ SCALE_LIMIT }
+    requires near { AtMost BOX_LIMIT a }
     ensures value { result ≡ pos k *ℤ a }
-    ensures bound { AtMost (k * 2 ^ 20) result }
+    ensures bound { AtMost (k * BOX_LIMIT) result }
 {
     k as i64 * a
 }
 
 // k times the vector.
-fn scaled(k: u32, a: V3) -> V3
-    requires few { k ≤ 256 }
-    requires near { Within (2 ^ 20) a }
+fn multiple(k: u32, a: V3) -> V3
+    requires few { k ≤ 2 ^ SCALE_LIMIT }
+    requires near { Within BOX_LIMIT a }
     ensures value { result ≡ multiple (pos k) a }
-    ensures bound { Within (k * 2 ^ 20) result }
+    ensures bound { Within (k * BOX_LIMIT) result }
 {
     V3 {
         x: product(k, a.x),
@@ -29,59 +43,60 @@ fn scaled(k: u32, a: V3) -> V3
     }
 }
 
-fn joined(a: i64, b: i64) -> i64
-    requires left { AtMost (2 ^ 40) a }
-    requires right { AtMost (2 ^ 40) b }
+fn plus(a: i64, b: i64) -> i64
+    requires left { AtMost FINE_LIMIT a }
+    requires right { AtMost FINE_LIMIT b }
     ensures { result ≡ a +ℤ b }
 {
     a + b
 }
 
 // The sum of two vectors.
-pub(crate) fn added(a: V3, b: V3) -> V3
-    requires left { Within (2 ^ 40) a }
-    requires right { Within (2 ^ 40) b }
+pub(crate) fn sum_of(a: V3, b: V3) -> V3
+    requires left { Within FINE_LIMIT a }
+    requires right { Within FINE_LIMIT b }
     ensures { result ≡ sum_of a b }
 {
     V3 {
-        x: joined(a.x, b.x),
-        y: joined(a.y, b.y),
-        z: joined(a.z, b.z),
+        x: plus(a.x, b.x),
+        y: plus(a.y, b.y),
+        z: plus(a.z, b.z),
     }
 }
 
 // 2^k.
 fn power(k: u8) -> u32
-    requires { k ≤ 8 }
+    requires { k ≤ SCALE_LIMIT }
     ensures value { result ≡ 2 ^ k }
-    ensures few { result ≤ 256 }
+    ensures few { result ≤ 2 ^ SCALE_LIMIT }
 {
     1 << k
 }
 
 /// The place at the fraction `j / 2^k` of the straight way from `x0` to `x1`, times `2^k`: in grid units where k is 0,
-/// in 1/256 grid unit where k is 8. Both ends are in the box; k is at most 8 and j at most `2^k`.
+/// in 1/256 grid unit where k is 8. Both ends are in the box; k is at most
+/// [`SCALE_LIMIT`] and j at most `2^k`.
 pub fn at_scale(x0: V3, x1: V3, j: u32, k: u8) -> V3
-    requires depth { k ≤ 8 }
+    requires depth { k ≤ SCALE_LIMIT }
     requires within { j ≤ 2 ^ k }
-    requires start { Within (2 ^ 20) x0 }
-    requires end { Within (2 ^ 20) x1 }
+    requires start { Within BOX_LIMIT x0 }
+    requires end { Within BOX_LIMIT x1 }
     ensures value { result ≡ between j (2 ^ k) x0 x1 }
-    ensures bound { Within (2 ^ 28) result }
+    ensures bound { Within FINE_LIMIT result }
 {
-    added(scaled(power(k) - j, x0), scaled(j, x1))
+    sum_of(multiple(power(k) - j, x0), multiple(j, x1))
 }
 
 fn cut(a: i64, half: u8) -> i64
-    requires { half ≤ 20 }
+    requires { half ≤ HALVING_LIMIT }
     ensures { result ≡ int_div a (pos (2 ^ half)) }
 {
     a / (1 << half)
 }
 
-/// The direction, divided by 2 so many times, at most 20; each component is cut towards zero.
+/// The direction, divided by 2 so many times, at most [`HALVING_LIMIT`]; each component is cut towards zero.
 pub fn halved(d: V3, half: u8) -> V3
-    requires { half ≤ 20 }
+    requires { half ≤ HALVING_LIMIT }
     ensures { result ≡ halved half d }
 {
     V3 {

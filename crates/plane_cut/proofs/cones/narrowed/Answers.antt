@@ -1,7 +1,7 @@
 use Rattle.std.proofs.Common.{pos, ◌<ℤ◌, sym, subst}
 use Rattle.space3.specs.Vectors.{dot_product}
 use Rattle.plane_cut.specs.declared.cones.Cone.{Cone}
-use Rattle.plane_cut.specs.Cones.{as_row, NarrowsOrNone}
+use Rattle.plane_cut.specs.Calls.Cones.{as_row, NarrowsOrNone}
 use Rattle.plane_cut.proofs.cones.narrowed.Goals as goal
 
 pub returns-in-Ray : goal.returns-in-Ray

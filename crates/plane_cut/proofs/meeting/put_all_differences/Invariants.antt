@@ -1,6 +1,6 @@
 use Rattle.std.proofs.Common.{◌≡◌, ◌*◌, ◌≤◌, take}
 use Rattle.space3.specs.Spots.{points}
-use Rattle.plane_cut.specs.Differences.{differences}
+use Rattle.plane_cut.specs.Calls.Differences.{differences}
 use Rattle.plane_cut.proofs.meeting.put_all_differences.Given as goal
 
 abbrev pub invariant-loop-i : goal.invariant-loop-i

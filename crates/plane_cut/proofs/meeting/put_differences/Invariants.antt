@@ -1,5 +1,5 @@
 use Rattle.std.proofs.Common.{◌≡◌, ◌+◌, ◌++◌, take, length}
-use Rattle.plane_cut.specs.Differences.{differences_from}
+use Rattle.plane_cut.specs.Calls.Differences.{differences_from}
 use Rattle.plane_cut.proofs.meeting.put_differences.Given as goal
 
 abbrev pub invariant-loop-j : goal.invariant-loop-j

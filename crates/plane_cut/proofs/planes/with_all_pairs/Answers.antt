@@ -1,9 +1,9 @@
 use Rattle.std.proofs.Common.{◌≡◌, ℕ, ◌+◌, ◌^◌, take, All, arith, subst, sym, get_or}
 use Rattle.space3.specs.Vectors.{origin, Within}
 use Rattle.list_laws.proofs.Elements.{All-take_at}
-use Rattle.plane_cut.specs.Flat.{ServesPair, ServesPairs}
+use Rattle.plane_cut.specs.Calls.Elimination.{ServesPair, ServesPairs}
 use Rattle.plane_cut.specs.declared.cones.Cone.{Cone}
-use Rattle.plane_cut.specs.Cones.{Narrows}
+use Rattle.plane_cut.specs.Calls.Cones.{Narrows}
 use Rattle.plane_cut.proofs.Narrowing.{First, narrows_more, narrows_skip, narrows_none, pairs_serve, test_above, test_not_above}
 use Rattle.plane_cut.proofs.planes.with_all_pairs.Goals as goal
 use Rattle.plane_cut.proofs.planes.with_all_pairs.Goals.{then-p-gt0+in_ok-cone, else-p-gt0}

@@ -1,6 +1,6 @@
 use Rattle.std.proofs.Common.{take}
-use Rattle.plane_cut.specs.Flat.{ServesPairs}
-use Rattle.plane_cut.specs.Cones.{Narrows}
+use Rattle.plane_cut.specs.Calls.Elimination.{ServesPairs}
+use Rattle.plane_cut.specs.Calls.Cones.{Narrows}
 use Rattle.plane_cut.proofs.Narrowing.{First}
 use Rattle.plane_cut.proofs.planes.with_all_pairs.Given as goal
 

@@ -1,10 +1,10 @@
 use Rattle.std.proofs.Common.{◌≡◌, ℕ, ◌+◌, ◌^◌, pos, ◌<ℤ◌, arith, subst, sym, get_or}
 use Rattle.space3.specs.Vectors.{origin, Within, dot_product}
 use Rattle.list_laws.proofs.Elements.{All-take_at}
-use Rattle.plane_cut.specs.Flat.{ServesFlat}
+use Rattle.plane_cut.specs.Calls.Elimination.{ServesFlat}
 use Rattle.plane_cut.specs.declared.cones.Cone.{Cone}
 use Rattle.plane_cut.specs.declared.cones.Cone.TheVariants.{Empty}
-use Rattle.plane_cut.specs.Cones.{as_row, Narrows}
+use Rattle.plane_cut.specs.Calls.Cones.{as_row, Narrows}
 use Rattle.plane_cut.proofs.Narrowing.{First, narrows_more, narrows_skip, narrows_none, flat_serves, test_zero, test_not_zero}
 use Rattle.plane_cut.proofs.planes.with_flats.Goals as goal
 use Rattle.plane_cut.proofs.planes.with_flats.Goals.{then-row-eq0+in_ok-cone, else-row-eq0}

@@ -1,5 +1,5 @@
-use Rattle.plane_cut.specs.Flat.{ServesFlat}
-use Rattle.plane_cut.specs.Cones.{Narrows}
+use Rattle.plane_cut.specs.Calls.Elimination.{ServesFlat}
+use Rattle.plane_cut.specs.Calls.Cones.{Narrows}
 use Rattle.plane_cut.specs.declared.cones.Cone.TheVariants.{Empty}
 use Rattle.plane_cut.proofs.Narrowing.{First}
 use Rattle.plane_cut.proofs.planes.with_flats.Given as goal

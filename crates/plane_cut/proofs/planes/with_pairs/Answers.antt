@@ -1,9 +1,9 @@
 use Rattle.std.proofs.Common.{◌≡◌, ℕ, ◌+◌, ◌^◌, pos, ◌<ℤ◌, arith, subst, sym, get_or}
 use Rattle.space3.specs.Vectors.{origin, Within, dot_product}
 use Rattle.list_laws.proofs.Elements.{All-take_at}
-use Rattle.plane_cut.specs.Flat.{ServesPair}
+use Rattle.plane_cut.specs.Calls.Elimination.{ServesPair}
 use Rattle.plane_cut.specs.declared.cones.Cone.{Cone}
-use Rattle.plane_cut.specs.Cones.{as_row, Narrows}
+use Rattle.plane_cut.specs.Calls.Cones.{as_row, Narrows}
 use Rattle.plane_cut.proofs.Narrowing.{First, narrows_more, narrows_skip, narrows_none, pair_serves, test_below, test_not_below}
 use Rattle.plane_cut.proofs.planes.with_pairs.Goals as goal
 use Rattle.plane_cut.proofs.planes.with_pairs.Goals.{then-q-lt0+in_ok-cone, else-q-lt0}

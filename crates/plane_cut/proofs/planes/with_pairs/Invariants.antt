@@ -1,5 +1,5 @@
-use Rattle.plane_cut.specs.Flat.{ServesPair}
-use Rattle.plane_cut.specs.Cones.{Narrows}
+use Rattle.plane_cut.specs.Calls.Elimination.{ServesPair}
+use Rattle.plane_cut.specs.Calls.Cones.{Narrows}
 use Rattle.plane_cut.proofs.Narrowing.{First}
 use Rattle.plane_cut.proofs.planes.with_pairs.Given as goal
 

@@ -7,7 +7,7 @@ use Rattle.plane_cut.specs.declared.rows.Flat.{Flat}
 use Rattle.plane_cut.specs.declared.cones.Cone.{Cone}
 use Rattle.plane_cut.specs.declared.cones.Cone.TheVariants.{Empty, Ray, Wedge}
 use Rattle.plane_cut.specs.Planes.{IsPlane}
-use Rattle.plane_cut.specs.Flat.{turn_of}
+use Rattle.plane_cut.specs.Calls.Elimination.{turn_of}
 
 -- the vector, with 0 as its third component
 abbrev pub as_row : Flat → V3
