@@ -1,2 +1,4 @@
 pub mod Elements
+pub mod Membership
 pub mod PairsOfElements
+pub mod StrictlySorted

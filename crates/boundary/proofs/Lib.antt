@@ -1,0 +1,4 @@
+pub mod GroupCuts
+pub mod Joining
+pub mod Order
+pub mod SortedGroups

@@ -1,0 +1,5 @@
+pub mod Calls
+pub mod Faces
+pub mod Refusals
+pub mod SortedLists
+pub mod Surface

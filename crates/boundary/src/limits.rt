@@ -1,0 +1,5 @@
+//! The limit of a surface.
+
+/// The greatest number of triangles of a surface. With it there are at most 98304 edges, and all pairs of vertices,
+/// edges and triangles are fewer than 2^34.
+pub const MOST_TRIANGLES: u32 = 32768;
