@@ -1,5 +1,5 @@
 -- Where the first group of a list of faces ends.
-use Rattle.std.proofs.Common.{◌≡◌, ◌∙◌, ℕ, suc, ◌+◌, ◌<◌, ◌≤◌, Bool, true, false, not, cond, List, [], ◌∷◌, ap, sym, refl, length, get_or, take, drop, arith}
+use Rattle.std.proofs.Common.{◌≡◌, ◌∙◌, ℕ, suc, ◌+◌, ◌<◌, Bool, true, false, not, cond, List, [], ◌∷◌, ap, sym, refl, length, get_or, take, drop, arith}
 use Rattle.std.specs.List.{prefix_len}
 use Rattle.std.specs.Prelude.{nat_eq}
 use Rattle.std.specs.Cmp.Lexicographic.{pointwise}
@@ -21,9 +21,9 @@ after_first f (g ∷ gs) = ap (put_before f) (after_first g gs) ∙ by (has_corn
         let k = prefix_len (has_corners g.corners) gs in
         let rest = groups_of (drop k gs) in
         let len : prefix_len (has_corners f.corners) (g ∷ gs) ≡ suc k =
-          ap (λ b. cond b (1 + prefix_len (has_corners f.corners) gs) 0) e
-          ∙ (let one : 1 + prefix_len (has_corners f.corners) gs ≡ suc (prefix_len (has_corners f.corners) gs) = omega arith in one)
-          ∙ ap (λ c. suc (prefix_len (has_corners c) gs)) (sym (same_nodes g.corners f.corners e)) in
+        ap (λ b. cond b (1 + prefix_len (has_corners f.corners) gs) 0) e
+        ∙ (let one : 1 + prefix_len (has_corners f.corners) gs ≡ suc (prefix_len (has_corners f.corners) gs) = omega arith in one)
+        ∙ ap (λ c. suc (prefix_len (has_corners c) gs)) (sym (same_nodes g.corners f.corners e)) in
         ap (λ b. cond b ((f ∷ g ∷ take k gs) ∷ rest) ((f ∷ []) ∷ (g ∷ take k gs) ∷ rest)) e
         ∙ ap (λ n. (f ∷ take n (g ∷ gs)) ∷ groups_of (drop n (g ∷ gs))) (sym len)
     by false e h =
@@ -63,7 +63,7 @@ AreAlikeBelow faces k = (j : ℕ) → j < k → (d : Face) → has_corners (firs
 pub group_stops : (faces : List Face) (k : ℕ) (d : Face) (differ : Bool) → 0 < length faces → k < length faces → AreAlikeBelow faces k → differ ≡ true → differ ≡ not (pointwise nat_eq (get_or faces k d).corners (get_or faces 0 d).corners) → k ≡ prefix_len (has_corners (first_corners faces)) faces
 group_stops faces k d differ some l below holds is =
     sym (prefix_len_is (has_corners (first_corners faces)) faces k d (omega arith) (λ j h. below j h d)
-      (λ _. ap (pointwise nat_eq (get_or faces k d).corners) (sym (first_is faces d some)) ∙ flipped (pointwise nat_eq (get_or faces k d).corners (get_or faces 0 d).corners) (sym is ∙ holds)))
+    (λ _. ap (pointwise nat_eq (get_or faces k d).corners) (sym (first_is faces d some)) ∙ flipped (pointwise nat_eq (get_or faces k d).corners (get_or faces 0 d).corners) (sym is ∙ holds)))
   where
     flipped : (b : Bool) → not b ≡ true → b ≡ false
     flipped true e = cc

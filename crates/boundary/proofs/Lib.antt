@@ -1,4 +1,8 @@
+pub mod Ascending
 pub mod GroupCuts
 pub mod Joining
 pub mod Order
+pub mod OwnersInGroups
 pub mod SortedGroups
+pub mod SortedOnce
+pub mod SurfaceFacts

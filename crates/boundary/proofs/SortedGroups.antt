@@ -1,5 +1,5 @@
 -- The groups of sorted faces: each is all the faces with its corners, and their corners rise.
-use Rattle.std.proofs.Common.{◌≡◌, ◌∙◌, ℕ, zero, suc, ◌<◌, ◌≤◌, Bool, true, false, cond, List, [], ◌∷◌, inl, inr, map, length, get_or, ap, sym, refl, subst, arith}
+use Rattle.std.proofs.Common.{◌≡◌, ◌∙◌, ℕ, zero, suc, ◌<◌, ◌≤◌, true, false, cond, List, [], ◌∷◌, inl, inr, map, length, get_or, ap, sym, refl, subst, arith}
 use Rattle.std.specs.List.{All, Contains, filter}
 use Rattle.std.specs.List.Sorted.{IsSortedByKey, IsStrictlySortedBy}
 use Rattle.std.specs.declared.cmp.Ordering.TheVariants.{Less}
@@ -7,7 +7,6 @@ use Rattle.std.specs.Ordering.{is_lt}
 use Rattle.std.proofs.lemmas.Bool.{cases_Bool}
 use Rattle.std.proofs.lemmas.List.Elements.{All-nil, All-cons, All-head, All-tail, All-same, All-filter, All-contains, All-weaker}
 use Rattle.std.proofs.lemmas.List.Sorted.{sorted_far, ranks_by}
-use Rattle.std.proofs.lemmas.Map.Keys.{sorted_tail}
 use Rattle.list_laws.proofs.Elements.{All-map_back}
 use Rattle.list_laws.proofs.Membership.{Contains-here, Contains-later}
 use Rattle.list_laws.proofs.StrictlySorted.{first_before, not_before_itself, sorted_cons, sorted_nil}
@@ -66,12 +65,12 @@ all_with f fs corners old c h =
 alone : (f : Face) (fs : List Face) (groups : List (List Face)) → AreGroups fs groups → All (λ c. node_order f.corners c ≡ Less) (map first_corners groups) → AreGroups (f ∷ fs) ((f ∷ []) ∷ groups)
 alone f fs groups old later = record {
   each =
-    All-cons (IsGroup (f ∷ fs)) (f ∷ []) groups
-    (record {
-      some = omega arith;
-      whole = ap (λ l. f ∷ l) (sym (none (filter (has_corners f.corners) fs) (λ h. not_before_itself is_total f.corners (All-contains (λ c. node_order f.corners c ≡ Less) (map first_corners groups) f.corners later (old.all f.corners h))))) ∙ sym (kept f fs f.corners (same_test f.corners f.corners refl));
-    })
-    (others_stay f fs groups old.each later);
+      All-cons (IsGroup (f ∷ fs)) (f ∷ []) groups
+      (record {
+        some = omega arith;
+        whole = ap (λ l. f ∷ l) (sym (none (filter (has_corners f.corners) fs) (λ h. not_before_itself is_total f.corners (All-contains (λ c. node_order f.corners c ≡ Less) (map first_corners groups) f.corners later (old.all f.corners h))))) ∙ sym (kept f fs f.corners (same_test f.corners f.corners refl));
+      })
+      (others_stay f fs groups old.each later);
   rising = sorted_cons node_order f.corners (map first_corners groups) later old.rising;
   all = all_with f fs (map first_corners groups) (λ c h. Contains-later f.corners (map first_corners groups) c (old.all c h));
 }
@@ -88,12 +87,12 @@ joins f g gs fs groups old e =
     let first : IsGroup fs (g ∷ gs) = All-head (IsGroup fs) (g ∷ gs) groups old.each in
     record {
       each =
-        All-cons (IsGroup (f ∷ fs)) (f ∷ g ∷ gs) groups
-        (record {
-          some = omega arith;
-          whole = ap (λ l. f ∷ l) (first.whole ∙ ap (λ c. filter (has_corners c) fs) same) ∙ sym (kept f fs f.corners (same_test f.corners f.corners refl));
-        })
-        (others_stay f fs groups (All-tail (IsGroup fs) (g ∷ gs) groups old.each) (first_before node_order f.corners (map first_corners groups) rising));
+          All-cons (IsGroup (f ∷ fs)) (f ∷ g ∷ gs) groups
+          (record {
+            some = omega arith;
+            whole = ap (λ l. f ∷ l) (first.whole ∙ ap (λ c. filter (has_corners c) fs) same) ∙ sym (kept f fs f.corners (same_test f.corners f.corners refl));
+          })
+          (others_stay f fs groups (All-tail (IsGroup fs) (g ∷ gs) groups old.each) (first_before node_order f.corners (map first_corners groups) rising));
       rising = rising;
       all = all_with f fs (map first_corners groups) (λ c h. subst (λ x. Contains (x ∷ map first_corners groups) c) same (old.all c h));
     }
@@ -106,16 +105,16 @@ put_before_groups f fs ((g ∷ gs) ∷ groups) up old =
     elim (cases_Bool (has_corners f.corners g)) [
       | inl t ↦ subst (λ l. AreGroups (f ∷ fs) l) (sym (ap (λ b. cond b ((f ∷ g ∷ gs) ∷ groups) ((f ∷ []) ∷ (g ∷ gs) ∷ groups)) t)) (joins f g gs fs groups old t)
       | inr n ↦
-        let head : IsGroup fs (g ∷ gs) = All-head (IsGroup fs) (g ∷ gs) groups old.each in
-        let kept_up : All (λ h. is_lt (node_order h.corners f.corners) ≡ false) (g ∷ gs) =
+          let head : IsGroup fs (g ∷ gs) = All-head (IsGroup fs) (g ∷ gs) groups old.each in
+          let kept_up : All (λ h. is_lt (node_order h.corners f.corners) ≡ false) (g ∷ gs) =
           All-same (λ h. is_lt (node_order h.corners f.corners) ≡ false) (g ∷ gs) (filter (has_corners g.corners) fs) head.whole
           (All-filter (has_corners g.corners) (λ h. is_lt (node_order h.corners f.corners) ≡ false) fs up) in
-        let less : node_order f.corners g.corners ≡ Less = before f.corners g.corners (All-head (λ h. is_lt (node_order h.corners f.corners) ≡ false) g gs kept_up) n in
-        let later : All (λ c. node_order f.corners c ≡ Less) (g.corners ∷ map first_corners groups) =
+          let less : node_order f.corners g.corners ≡ Less = before f.corners g.corners (All-head (λ h. is_lt (node_order h.corners f.corners) ≡ false) g gs kept_up) n in
+          let later : All (λ c. node_order f.corners c ≡ Less) (g.corners ∷ map first_corners groups) =
           All-cons (λ c. node_order f.corners c ≡ Less) g.corners (map first_corners groups) less
           (All-weaker (λ c. node_order g.corners c ≡ Less) (λ c. node_order f.corners c ≡ Less) (λ c h. is_total.trans f.corners g.corners c less h) (map first_corners groups)
-            (first_before node_order g.corners (map first_corners groups) old.rising)) in
-        subst (λ l. AreGroups (f ∷ fs) l) (sym (ap (λ b. cond b ((f ∷ g ∷ gs) ∷ groups) ((f ∷ []) ∷ (g ∷ gs) ∷ groups)) n)) (alone f fs ((g ∷ gs) ∷ groups) old later)
+          (first_before node_order g.corners (map first_corners groups) old.rising)) in
+          subst (λ l. AreGroups (f ∷ fs) l) (sym (ap (λ b. cond b ((f ∷ g ∷ gs) ∷ groups) ((f ∷ []) ∷ (g ∷ gs) ∷ groups)) n)) (alone f fs ((g ∷ gs) ∷ groups) old later)
     ]
 
 groups_rise : (faces : List Face) → Rises faces → AreGroups faces (groups_of faces)

@@ -5,10 +5,7 @@ ghost use Rattle.boundary.specs.Surface.{AreEdges, AreVertices, sides_of};
 use std::alloc::{AllocError, Global};
 
 /// The sides of the triangles, sorted, each once.
-pub(crate) fn edges_of(
-    alloc: Global,
-    triangles: &[[u32; 3]],
-) -> Result<Vec<[u32; 2]>, AllocError>
+pub(crate) fn edges_of(alloc: Global, triangles: &[[u32; 3]]) -> Result<Vec<[u32; 2]>, AllocError>
     ensures { IfOk result (λ edges. AreEdges triangles.now edges.items) }
 {
     let mut edges = Vec::new(alloc);

@@ -1,10 +1,9 @@
-use Rattle.std.proofs.Common.{◌≡◌, ◌∙◌, ap, ℕ, List, [], rules, sym}
+use Rattle.std.proofs.Common.{◌≡◌, ◌∙◌, ap, [], rules, sym}
 use Rattle.std.specs.Prelude.{filter}
-use Rattle.std.specs.Ordering.{is_lt}
 use Rattle.std.proofs.lemmas.Fn.{always_returns_same}
 use Rattle.std.proofs.lemmas.List.Elements.{filter_agree}
 use Rattle.boundary.specs.declared.faces.Face.{Face}
-use Rattle.boundary.specs.Faces.{corners_of, faces_of, has_corners, node_order}
+use Rattle.boundary.specs.Faces.{corners_of, faces_of, has_corners}
 use Rattle.boundary.proofs.Order.{tie_test}
 use Rattle.boundary.proofs.faces.sorted_faces.Goals as goal
 

@@ -1,4 +1,4 @@
-use Rattle.std.proofs.Common.{◌∙◌, ap, sym, subst, ◌≤◌, length, arith}
+use Rattle.std.proofs.Common.{sym, subst, ◌≤◌, length, arith}
 use Rattle.std.proofs.lemmas.List.Sums.{prefix_len-le-length}
 use Rattle.boundary.proofs.GroupCuts.{first_cut, first_some}
 use Rattle.boundary.proofs.groups.first_group.Goals as goal

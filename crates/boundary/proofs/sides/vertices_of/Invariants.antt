@@ -1,6 +1,5 @@
 use Rattle.std.proofs.Common.{◌≡◌, take}
 use Rattle.std.specs.List.{flat_map}
-use Rattle.boundary.specs.Surface.{sides_of}
 use Rattle.boundary.proofs.sides.vertices_of.Given as goal
 
 abbrev pub invariant-loop-triangle : goal.invariant-loop-triangle
