@@ -1,4 +1,5 @@
 pub mod Pieces
-pub mod FilesKept
-pub mod Reading
-pub mod FilesFound
+pub mod FileMaps
+pub mod FileWrites
+pub mod FrontRead
+pub mod Entries

@@ -3,3 +3,5 @@ pub mod Whole
 pub mod MemState
 pub mod MemView
 pub mod MemCode
+pub mod OsState
+pub mod Calls

@@ -29,8 +29,9 @@ pub record WritesAll {T E : Type 0} (name bytes : List ℕ) (old : ShelfState) (
   pub read_faults : new.read_faults ≡ old.read_faults
   pub write_faults : Counts old.write_faults result new.write_faults
 
--- there is no memory for the bytes: no fault is counted
-pub record ReadLacksMemory (old new : ShelfState) : Type 0 where
+-- there is no memory for the bytes that were taken: no fault is counted
+pub record ReadLacksMemory (limit : ℕ) (old new : ShelfState) : Type 0 where
+  pub taken : new.taken ≤ limit + 1
   pub failed : new.failed ≡ old.failed
   pub read_faults : new.read_faults ≡ old.read_faults
 
@@ -50,7 +51,7 @@ pub record ReadsTooMuch (name : List ℕ) (limit number : ℕ) (old new : ShelfS
 
 -- why a file was not read whole
 abbrev pub ReadRefused : List ℕ → ℕ → ShelfState → ReadErr → ShelfState → Type 0
-ReadRefused name limit old errors.Memory new = ReadLacksMemory old new
+ReadRefused name limit old errors.Memory new = ReadLacksMemory limit old new
 ReadRefused name limit old errors.Failed new = ReadFails name limit old new
 ReadRefused name limit old (errors.TooLong taken) new = ReadsTooMuch name limit taken old new
 

@@ -20,6 +20,3 @@ pub use mem_sink::MemSink;
 pub use os::{OsShelf, OsSink};
 pub use shelf::{Failed, Shelf, Sink};
 pub use whole::{ReadErr, read_all, say_all, write_all};
-
-#[cfg(test)]
-mod tests;

@@ -2,7 +2,8 @@
 ghost use Rattle.std.specs.Prelude.{◌≡◌, ◌++◌, [], None, IfSome, IfNone, OnOk, OnErr, option_copied};
 ghost use Rattle.std.specs.FinMap.{get, insert};
 ghost use Rattle.shelf_io.specs.Shelf.{lengthened};
-ghost use Rattle.shelf_io.specs.MemView.{entries_of, files_of, IsFirst};
+ghost use Rattle.shelf_io.specs.MemView.{entries_of, files_of};
+ghost use Rattle.shelf_io.specs.Calls.{IsFirst};
 
 use crate::Failed;
 use std::alloc::{AllocError, Global};
@@ -15,7 +16,7 @@ pub(crate) struct MemFile {
 }
 
 /// Where the first file of a name stands.
-pub(crate) fn place_of(files: &[MemFile], name: &str) -> Option<usize>
+pub(crate) fn index_of(files: &[MemFile], name: &str) -> Option<usize>
     ensures some { IfSome result (λ i. IsFirst (entries_of files.now) name.now i) }
     ensures none { IfNone result (get (files_of files.now) name.now ≡ None) }
 {
@@ -31,7 +32,7 @@ pub(crate) fn place_of(files: &[MemFile], name: &str) -> Option<usize>
 pub(crate) fn bytes_of<'a>(files: &'a [MemFile], name: &str) -> Option<&'a [u8]>
     ensures { option_copied result ≡ get (files_of files.now) name.now }
 {
-    match place_of(files, name) {
+    match index_of(files, name) {
         Some(i) => Some(files[i].bytes.as_slice()),
         None => None,
     }
@@ -47,7 +48,7 @@ pub(crate) fn set_file(
     ensures ok { OnOk result (files_of files.new.items ≡ insert (files_of files.old.items) name.now bytes.items) }
     ensures err { OnErr result (entries_of files.new.items ≡ entries_of files.old.items) }
 {
-    match place_of(files, name) {
+    match index_of(files, name) {
         Some(i) => {
             let file = &mut files[i];
             file.bytes = bytes;
@@ -65,7 +66,7 @@ pub(crate) fn add_bytes(files: &mut Vec<MemFile>, name: &str, piece: &[u8]) -> R
     ensures ok { OnOk result (files_of files.new.items ≡ lengthened name.now piece.now (files_of files.old.items)) }
     ensures err { OnErr result (entries_of files.new.items ≡ entries_of files.old.items) }
 {
-    match place_of(files, name) {
+    match index_of(files, name) {
         Some(i) => {
             let file = &mut files[i];
             match file.bytes.extend_from_slice(piece) {

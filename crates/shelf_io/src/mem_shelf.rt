@@ -1,14 +1,13 @@
 //! A shelf in memory, of which chosen calls fail.
-ghost use Rattle.std.specs.Prelude.{◌≡◌, ◌⊎◌, ◌↔◌, ◌++◌, ◌∷◌, [], length, min, None, IsTrue, IfSome, IfOk, IsErr, OnOk, OnErr, option_copied};
-ghost use Rattle.std.specs.FinMap.{get, insert, empty};
-ghost use Rattle.shelf_io.specs.Shelf.{Opens, Reads, Creates, Writes, Finishes};
-ghost use Rattle.shelf_io.specs.MemState.{IsDue, after_call, shelf_told, shelf_tells};
+ghost use Rattle.std.specs.Prelude.{◌≡◌, ◌⊎◌, ◌↔◌, length, None, IsTrue, IfSome, IfOk, IsErr, OnOk, OnErr, option_copied};
+ghost use Rattle.std.specs.FinMap.{get};
+ghost use Rattle.shelf_io.specs.Shelf.{Opens, Reads, Creates, Writes, Finishes, next_count};
+ghost use Rattle.shelf_io.specs.MemState.{IsDue, after_call, failing_at, empty_shelf, shelf_with, FillsUp, shelf_told, shelf_tells};
 
-use crate::faults::{Plan, fault};
+use crate::faults::{Schedule, count_fault};
 use crate::mem_files::{MemFile, bytes_of, set_file};
 use crate::mem_work::{
-    Work, add_unless, begin_unless, copied, find_unless, into_name, making_name, opened_name,
-    read_unless,
+    Work, add_piece, copy_of, made_name, make_file, making_name, opened_name, read_head, read_piece,
 };
 use crate::{Failed, Shelf};
 use std::alloc::{AllocError, Global};
@@ -23,7 +22,7 @@ pub struct MemShelf {
     work: Work,
     taken: u64,
     failed: Option<String>,
-    plan: Plan,
+    schedule: Schedule,
     read_faults: u64,
     write_faults: u64,
 }
@@ -44,7 +43,7 @@ impl Model for MemShelf {
 impl MemShelf {
     /// No file, and no call that is to fail.
     pub fn new(alloc: Global) -> Self
-        ensures { result ≡ record { files = empty; opened = None; making = None; taken = 0; failed = None; plan = record { calls = 0; failing = [] }; read_faults = 0; write_faults = 0 } }
+        ensures { result ≡ empty_shelf }
     {
         MemShelf {
             alloc,
@@ -52,7 +51,7 @@ impl MemShelf {
             work: Work::Nothing,
             taken: 0,
             failed: None,
-            plan: Plan::new(alloc),
+            schedule: Schedule::new(alloc),
             read_faults: 0,
             write_faults: 0,
         }
@@ -60,7 +59,7 @@ impl MemShelf {
 
     /// Sets the file of this name, and leaves no file open and none being made.
     pub fn put(&mut self, name: &str, bytes: &[u8]) -> Result<(), AllocError>
-        ensures ok { OnOk result (self.new ≡ record self.old { files = insert self.old.files name.now bytes.now; opened = None; making = None }) }
+        ensures ok { OnOk result (self.new ≡ shelf_with name.now bytes.now self.old) }
         ensures err { OnErr result (self.new ≡ self.old) }
     {
         let bytes = Vec::from_slice(self.alloc, bytes)?;
@@ -71,10 +70,10 @@ impl MemShelf {
 
     /// Lets the call of this number fail. The calls of the trait are numbered from 1.
     pub fn fail_at(&mut self, call: u64) -> Result<(), AllocError>
-        ensures ok { OnOk result (self.new ≡ record self.old { plan = record self.old.plan { failing = self.old.plan.failing ++ call ∷ [] } }) }
+        ensures ok { OnOk result (self.new ≡ record self.old { schedule = failing_at call self.old.schedule }) }
         ensures err { OnErr result (self.new ≡ self.old) }
     {
-        self.plan.add(call)
+        self.schedule.add(call)
     }
 
     /// The bytes of a file, or None where there is no file of this name.
@@ -103,20 +102,21 @@ impl Shelf for MemShelf {
     /// Fails exactly where its number is listed or there is no file of this name.
     fn open(&mut self, name: &str) -> Result<(), Failed>
         ensures opens { Opens name.now (shelf_told self.old) result (shelf_told self.new) }
-        ensures exactly { IsErr result ↔ (IsDue self.old.plan ⊎ (get self.old.files name.now ≡ None)) }
-        ensures plan { self.new.plan ≡ after_call self.old.plan }
+        ensures exactly { IsErr result ↔ (IsDue self.old.schedule ⊎ (get self.old.files name.now ≡ None)) }
+        ensures counted { OnErr result (self.new.read_faults ≡ next_count self.old.read_faults) }
+        ensures schedule { self.new.schedule ≡ after_call self.old.schedule }
     {
         self.work = Work::Nothing;
         self.taken = 0;
-        let due = self.plan.is_due();
-        match find_unless(due, &self.files, name) {
-            Some(place) => {
-                self.work = Work::Reading(place);
+        let due = self.schedule.count_call();
+        match read_head(due, &self.files, name) {
+            Some(head) => {
+                self.work = Work::Reading(head);
                 Ok(())
             }
             None => {
-                self.failed = copied(self.alloc, name);
-                Err(fault(&mut self.read_faults))
+                self.failed = copy_of(self.alloc, name);
+                Err(count_fault(&mut self.read_faults))
             }
         }
     }
@@ -125,19 +125,20 @@ impl Shelf for MemShelf {
     fn read(&mut self, buf: &mut [u8]) -> Result<usize, Failed>
         requires { IsTrue (shelf_told self.old).reading }
         ensures reads { Reads buf.new (shelf_told self.old) result (shelf_told self.new) }
-        ensures fits { IfOk result (λ n. IfSome (shelf_told self.old).unread (λ rest. n ≡ min (length buf.new) (length rest))) }
-        ensures exactly { IsErr result ↔ IsDue self.old.plan }
-        ensures plan { self.new.plan ≡ after_call self.old.plan }
+        ensures fits { IfOk result (λ n. IfSome (shelf_told self.old).unread (FillsUp buf.new n)) }
+        ensures exactly { IsErr result ↔ IsDue self.old.schedule }
+        ensures counted { OnErr result (self.new.read_faults ≡ next_count self.old.read_faults) }
+        ensures schedule { self.new.schedule ≡ after_call self.old.schedule }
     {
-        let due = self.plan.is_due();
-        match read_unless(due, &self.files, &mut self.work, buf) {
+        let due = self.schedule.count_call();
+        match read_piece(due, &self.files, &mut self.work, buf) {
             Some(n) => {
                 self.taken = self.taken.saturating_add(n as u64);
                 Ok(n)
             }
             None => {
                 self.failed = opened_name(self.alloc, &self.files, &self.work);
-                Err(fault(&mut self.read_faults))
+                Err(count_fault(&mut self.read_faults))
             }
         }
     }
@@ -145,20 +146,21 @@ impl Shelf for MemShelf {
     /// Fails where its number is listed or there is no memory, and then changes no file.
     fn create(&mut self, name: &str) -> Result<(), Failed>
         ensures creates { Creates name.now (shelf_told self.old) result (shelf_told self.new) }
-        ensures due { IsDue self.old.plan → IsErr result }
+        ensures due { IsDue self.old.schedule → IsErr result }
         ensures unchanged { OnErr result (self.new.files ≡ self.old.files) }
-        ensures plan { self.new.plan ≡ after_call self.old.plan }
+        ensures counted { OnErr result (self.new.write_faults ≡ next_count self.old.write_faults) }
+        ensures schedule { self.new.schedule ≡ after_call self.old.schedule }
     {
         self.work = Work::Nothing;
-        let due = self.plan.is_due();
-        match begin_unless(due, self.alloc, &mut self.files, name) {
+        let due = self.schedule.count_call();
+        match make_file(due, self.alloc, &mut self.files, name) {
             Ok(making) => {
                 self.work = Work::Making(making);
                 Ok(())
             }
             Err(_) => {
-                self.failed = copied(self.alloc, name);
-                Err(fault(&mut self.write_faults))
+                self.failed = copy_of(self.alloc, name);
+                Err(count_fault(&mut self.write_faults))
             }
         }
     }
@@ -168,31 +170,34 @@ impl Shelf for MemShelf {
         requires { IsTrue (shelf_told self.old).writing }
         ensures writes { Writes piece.now (shelf_told self.old) result (shelf_told self.new) }
         ensures all { IfOk result (λ n. n ≡ length piece.now) }
-        ensures due { IsDue self.old.plan → IsErr result }
+        ensures due { IsDue self.old.schedule → IsErr result }
         ensures unchanged { OnErr result (self.new.files ≡ self.old.files) }
-        ensures plan { self.new.plan ≡ after_call self.old.plan }
+        ensures counted { OnErr result (self.new.write_faults ≡ next_count self.old.write_faults) }
+        ensures schedule { self.new.schedule ≡ after_call self.old.schedule }
     {
-        let due = self.plan.is_due();
-        match add_unless(due, &mut self.files, &self.work, piece) {
+        let due = self.schedule.count_call();
+        match add_piece(due, &mut self.files, &self.work, piece) {
             Ok(()) => Ok(piece.len()),
             Err(_) => {
                 self.failed = making_name(self.alloc, &self.work);
-                Err(fault(&mut self.write_faults))
+                Err(count_fault(&mut self.write_faults))
             }
         }
     }
 
-    /// Fails exactly where its number is listed.
+    /// Fails exactly where its number is listed, and then tells the name: it needs no memory for it.
     fn finish(&mut self) -> Result<(), Failed>
         requires { IsTrue (shelf_told self.old).writing }
         ensures finishes { Finishes (shelf_told self.old) result (shelf_told self.new) }
-        ensures exactly { IsErr result ↔ IsDue self.old.plan }
-        ensures plan { self.new.plan ≡ after_call self.old.plan }
+        ensures told { OnErr result (self.new.failed ≡ self.old.making) }
+        ensures exactly { IsErr result ↔ IsDue self.old.schedule }
+        ensures counted { OnErr result (self.new.write_faults ≡ next_count self.old.write_faults) }
+        ensures schedule { self.new.schedule ≡ after_call self.old.schedule }
     {
-        let made = into_name(mem::replace(&mut self.work, Work::Nothing));
-        if self.plan.is_due() {
+        let made = made_name(mem::replace(&mut self.work, Work::Nothing));
+        if self.schedule.count_call() {
             self.failed = made;
-            return Err(fault(&mut self.write_faults));
+            return Err(count_fault(&mut self.write_faults));
         }
         Ok(())
     }

@@ -1,8 +1,9 @@
 //! The shelf and the sink of the system, the trusted edge: they tell nothing of content, and count each error.
-ghost use Rattle.std.specs.Prelude.{◌≡◌, None, is_some, false};
-ghost use Rattle.shelf_io.specs.Shelf.{nothing_told};
+ghost use Rattle.std.specs.Prelude.{◌≡◌, None, IsTrue, OnErr, false};
+ghost use Rattle.shelf_io.specs.Shelf.{Opens, Reads, Creates, Writes, Says, nothing_told, next_count};
+ghost use Rattle.shelf_io.specs.OsState.{os_told, output_told};
 
-use crate::faults::fault;
+use crate::faults::count_fault;
 use crate::{Failed, Shelf, Sink};
 use std::fs;
 use std::io::{Read, Write};
@@ -36,11 +37,14 @@ impl<R: Files + Drop> OsShelf<R> {
 }
 
 impl<R: Files + Drop> Shelf for OsShelf<R> {
-    ghost state = { λ s. nothing_told (is_some s.opened) (is_some s.making) s.taken s.read_faults s.write_faults };
+    ghost state = { λ s. os_told s };
 
     ghost tells = { λ _. record { opened = tt; unread = tt; making = tt } };
 
-    fn open(&mut self, name: &str) -> Result<(), Failed> {
+    fn open(&mut self, name: &str) -> Result<(), Failed>
+        ensures opens { Opens name.now (os_told self.old) result (os_told self.new) }
+        ensures counted { OnErr result (self.new.read_faults ≡ next_count self.old.read_faults) }
+    {
         self.making = None;
         self.taken = 0;
         match fs::open(&self.files, name) {
@@ -50,22 +54,29 @@ impl<R: Files + Drop> Shelf for OsShelf<R> {
             }
             Err(_) => {
                 self.opened = None;
-                Err(fault(&mut self.read_faults))
+                Err(count_fault(&mut self.read_faults))
             }
         }
     }
 
-    fn read(&mut self, buf: &mut [u8]) -> Result<usize, Failed> {
+    fn read(&mut self, buf: &mut [u8]) -> Result<usize, Failed>
+        requires { IsTrue (os_told self.old).reading }
+        ensures reads { Reads buf.new (os_told self.old) result (os_told self.new) }
+        ensures counted { OnErr result (self.new.read_faults ≡ next_count self.old.read_faults) }
+    {
         if let Some(file) = &mut self.opened
             && let Ok(n) = file.read(buf)
         {
             self.taken = self.taken.saturating_add(n as u64);
             return Ok(n);
         }
-        Err(fault(&mut self.read_faults))
+        Err(count_fault(&mut self.read_faults))
     }
 
-    fn create(&mut self, name: &str) -> Result<(), Failed> {
+    fn create(&mut self, name: &str) -> Result<(), Failed>
+        ensures creates { Creates name.now (os_told self.old) result (os_told self.new) }
+        ensures counted { OnErr result (self.new.write_faults ≡ next_count self.old.write_faults) }
+    {
         self.opened = None;
         match fs::create(&self.files, name) {
             Ok(file) => {
@@ -74,19 +85,23 @@ impl<R: Files + Drop> Shelf for OsShelf<R> {
             }
             Err(_) => {
                 self.making = None;
-                Err(fault(&mut self.write_faults))
+                Err(count_fault(&mut self.write_faults))
             }
         }
     }
 
-    fn write(&mut self, piece: &[u8]) -> Result<usize, Failed> {
+    fn write(&mut self, piece: &[u8]) -> Result<usize, Failed>
+        requires { IsTrue (os_told self.old).writing }
+        ensures writes { Writes piece.now (os_told self.old) result (os_told self.new) }
+        ensures counted { OnErr result (self.new.write_faults ≡ next_count self.old.write_faults) }
+    {
         if let Some(file) = &mut self.making
             && let Ok(n) = file.write(piece)
             && (n > 0 || piece.is_empty())
         {
             return Ok(n);
         }
-        Err(fault(&mut self.write_faults))
+        Err(count_fault(&mut self.write_faults))
     }
 
     fn finish(&mut self) -> Result<(), Failed> {
@@ -112,14 +127,17 @@ impl<R: Print + Drop> OsSink<R> {
 }
 
 impl<R: Print + Drop> Sink for OsSink<R> {
-    ghost state = { λ s. record { written = None; faults = s.faults } };
+    ghost state = { λ s. output_told s };
 
-    fn write(&mut self, piece: &[u8]) -> Result<usize, Failed> {
+    fn write(&mut self, piece: &[u8]) -> Result<usize, Failed>
+        ensures says { Says piece.now (output_told self.old) result (output_told self.new) }
+        ensures counted { OnErr result (self.new.faults ≡ next_count self.old.faults) }
+    {
         if let Ok(n) = self.out.write_some(piece)
             && (n > 0 || piece.is_empty())
         {
             return Ok(n);
         }
-        Err(fault(&mut self.faults))
+        Err(count_fault(&mut self.faults))
     }
 }

@@ -1,9 +1,10 @@
 use Rattle.std.proofs.Common.{◌∙◌, ap, sym, subst, refl, List}
 use Rattle.std.specs.FinMap.{insert}
-use Rattle.shelf_io.specs.MemView.{entries_of, files_of, IsFirst}
+use Rattle.shelf_io.specs.MemView.{entries_of, files_of}
+use Rattle.shelf_io.specs.Calls.{IsFirst}
 use Rattle.shelf_io.specs.declared.mem_files.MemFile.{MemFile}
-use Rattle.shelf_io.proofs.FilesKept.{added_there}
-use Rattle.shelf_io.proofs.FilesFound.{found, set_found, set_alike}
+use Rattle.shelf_io.proofs.FileWrites.{added_there}
+use Rattle.shelf_io.proofs.Entries.{found, set_found, set_alike}
 use Rattle.shelf_io.proofs.mem_files.add_bytes.Goals as goal
 
 pub returns-in-Ok-clause-ok : goal.returns-in-Ok-clause-ok

@@ -1,6 +1,6 @@
 use Rattle.std.proofs.Common.{◌∙◌, sym, ap, Some}
 use Rattle.shelf_io.specs.declared.mem_files.MemFile.{MemFile}
-use Rattle.shelf_io.proofs.FilesFound.{found}
+use Rattle.shelf_io.proofs.Entries.{found}
 use Rattle.shelf_io.proofs.mem_files.bytes_of.Goals as goal
 
 pub returns-in-Some : goal.returns-in-Some

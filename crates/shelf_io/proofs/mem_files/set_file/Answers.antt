@@ -1,8 +1,9 @@
 use Rattle.std.proofs.Common.{◌∙◌, ap, subst, None, ◌≡◌, List}
 use Rattle.std.specs.FinMap.{get}
-use Rattle.shelf_io.specs.MemView.{entries_of, files_of, IsFirst}
+use Rattle.shelf_io.specs.MemView.{entries_of, files_of}
+use Rattle.shelf_io.specs.Calls.{IsFirst}
 use Rattle.shelf_io.specs.declared.mem_files.MemFile.{MemFile}
-use Rattle.shelf_io.proofs.FilesFound.{found, set_found, pushed}
+use Rattle.shelf_io.proofs.Entries.{found, set_found, pushed}
 use Rattle.shelf_io.proofs.mem_files.set_file.Goals as goal
 
 pub returns-in-Some-clause-ok : goal.returns-in-Some-clause-ok

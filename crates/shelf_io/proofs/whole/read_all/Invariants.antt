@@ -1,5 +1,5 @@
 use Rattle.std.proofs.Common.{◌≡◌, ◌≤◌, ◌+◌, ◌-◌, length, vec_len}
-use Rattle.shelf_io.proofs.Reading.{Reading}
+use Rattle.shelf_io.proofs.FrontRead.{FrontRead}
 use Rattle.shelf_io.proofs.whole.read_all.Given as goal
 
 abbrev pub invariant-loop-piece : goal.invariant-loop-piece
@@ -7,7 +7,7 @@ invariant-loop-piece g l =
     record {
       within : vec_len l.bytes ≤ l.limit + 1;
       all : length l.bytes.items ≡ vec_len l.bytes;
-      state : Reading l.name l.bytes.items (g.S.Shelf.state l.fn.shelf) (g.S.Shelf.state l.shelf);
+      state : FrontRead l.name l.bytes.items (g.S.Shelf.state l.fn.shelf) (g.S.Shelf.state l.shelf);
     }
 
 abbrev pub decreases-loop-piece : goal.decreases-loop-piece

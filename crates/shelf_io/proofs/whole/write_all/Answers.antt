@@ -1,7 +1,7 @@
 use Rattle.std.proofs.Common.{ℕ, ◌+◌, ◌∙◌, sym, subst, arith, length-take-le, length-drop, inr}
 use Rattle.std.proofs.lemmas.Result.{err_from_is_err_and}
 use Rattle.shelf_io.specs.Shelf.{IsIfTold}
-use Rattle.shelf_io.proofs.FilesKept.{made_more, told_name}
+use Rattle.shelf_io.proofs.FileWrites.{made_more, told_name}
 use Rattle.shelf_io.proofs.whole.write_all.Goals as goal
 
 pub returns-in_err-sent : goal.returns-in_err-sent

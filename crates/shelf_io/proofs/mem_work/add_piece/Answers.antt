@@ -1,7 +1,7 @@
 use Rattle.std.proofs.Common.{◌∙◌, sym, ap, Some, Result, Ok, Err, OnErr}
 use Rattle.shelf_io.specs.MemView.{files_of, map_of, making_of}
-use Rattle.shelf_io.proofs.FilesKept.{nothing_added}
-use Rattle.shelf_io.proofs.mem_work.add_unless.Goals as goal
+use Rattle.shelf_io.proofs.FileWrites.{nothing_added}
+use Rattle.shelf_io.proofs.mem_work.add_piece.Goals as goal
 
 on_err : {T E P Q : Type 0} (r : Result T E) → OnErr r P → (P → Q) → OnErr r Q
 on_err (Ok x) p f = tt

@@ -1,4 +1,4 @@
--- A file that is read in pieces.
+-- The front of a file, as far as it was read.
 use Rattle.std.proofs.Common.{◌≡◌, ℕ, List, ◌++◌, length, Option, Some, None, IfSome, true, false}
 use Rattle.std.specs.FinMap.{get}
 use Rattle.shelf_io.specs.Shelf.{ShelfState, Files, IsIfTold}
@@ -10,7 +10,7 @@ pub record IsCut (name bytes : List ℕ) (told : Option (List ℕ)) (fs : Files)
   pub whole : get fs name ≡ Some (bytes ++ rest)
 
 -- these bytes of a file were read, and nothing failed
-pub record Reading (name bytes : List ℕ) (old now : ShelfState) : Type 0 where
+pub record FrontRead (name bytes : List ℕ) (old now : ShelfState) : Type 0 where
   pub reading : now.reading ≡ true
   pub files : now.files ≡ old.files
   pub taken : now.taken ≡ length bytes

@@ -1,8 +1,8 @@
 use Rattle.std.proofs.Common.{◌∙◌, sym, ap, Some, below_more, ◌≡◌, arith, string_bytes, Bool, true, false}
 use Rattle.std.proofs.lemmas.Slice.Eq.{bytes_eq-Decides}
 use Rattle.shelf_io.specs.MemView.{entries_of}
-use Rattle.shelf_io.proofs.FilesFound.{entries_length, file_at, none_of_all, one_name}
-use Rattle.shelf_io.proofs.mem_files.place_of.Goals as goal
+use Rattle.shelf_io.proofs.Entries.{entries_length, file_at, none_of_all, one_name}
+use Rattle.shelf_io.proofs.mem_files.index_of.Goals as goal
 
 absurd_eq : (b : Bool) → b ≡ true → b ≡ false → ⊥
 absurd_eq b p q = cc

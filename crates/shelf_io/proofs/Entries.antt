@@ -4,42 +4,17 @@ use Rattle.std.proofs.lemmas.List.{map-set, map-append, length-map}
 use Rattle.std.proofs.Math.Seq.{map-set_same}
 use Rattle.std.proofs.lemmas.Option.{slice_get_read, slice_get-map}
 use Rattle.std.specs.Option.{option_map}
-use Rattle.std.specs.Ordering.{nat_cmp, eq_by_cmp, is_eq}
-use Rattle.std.specs.declared.cmp.Ordering.TheVariants.{Less, Equal, Greater}
 use Rattle.std.specs.Cmp.Lexicographic.{slice_cmp, nat_list_cmp_total}
+use Rattle.std.specs.Ordering.{nat_cmp}
 use Rattle.std.specs.FinMap.{get, insert, get-insert, get-empty, from_entries_push, get-from_entries, same_map}
 use Rattle.shelf_io.specs.Shelf.{Files}
-use Rattle.shelf_io.specs.MemView.{entries_of, map_of, files_of, IsFirst, OpensAt}
+use Rattle.shelf_io.specs.MemView.{entries_of, map_of, files_of}
+use Rattle.shelf_io.specs.Calls.{IsFirst, OpensAt}
 use Rattle.shelf_io.specs.declared.mem_files.MemFile.{MemFile}
-use Rattle.shelf_io.proofs.FilesKept.{exact_names, tied, get_new, insert_twice}
+use Rattle.shelf_io.proofs.FileMaps.{exact_names, get_new, get_other, insert_twice, insert_crossed}
 
 abbrev pub Entries : Type 0
 Entries = List (List ℕ × List ℕ)
-
--- a name that differs doesn't tie
-other_name : (a b : List ℕ) → (a ≡ b → ⊥) → eq_by_cmp (slice_cmp nat_cmp) a b ≡ false
-other_name a b ne =
-    elim (slice_cmp nat_cmp a b) as (λ r. slice_cmp nat_cmp a b ≡ r → is_eq r ≡ false) [
-      | Less ↦ λ _. refl
-      | Equal ↦ λ e. absurd (ne (exact_names a b e))
-      | Greater ↦ λ _. refl
-    ] refl
-
-get_other : (fs : Files) (k v q : List ℕ) → (q ≡ k → ⊥) → get (insert fs k v) q ≡ get fs q
-get_other fs k v q ne = get-insert nat_list_cmp_total fs k v q ∙ ap (λ b. cond b (Some v) (get fs q)) (other_name q k ne)
-
-crossed : (a b : Bool) (v w : List ℕ) (o : Option (List ℕ)) → (a ≡ true → b ≡ true → ⊥) → cond a (Some v) (cond b (Some w) o) ≡ cond b (Some w) (cond a (Some v) o)
-crossed true true v w o apart = absurd (apart refl refl)
-crossed true false v w o apart = refl
-crossed false b v w o apart = refl
-
--- two changes at different names, in either order
-insert_crossed : (fs : Files) (k v l w : List ℕ) → (k ≡ l → ⊥) → insert (insert fs k v) l w ≡ insert (insert fs l w) k v
-insert_crossed fs k v l w ne = same_map nat_list_cmp_total exact_names _ _ (λ q.
-    get-insert nat_list_cmp_total (insert fs k v) l w q
-    ∙ ap (cond (eq_by_cmp (slice_cmp nat_cmp) q l) (Some w)) (get-insert nat_list_cmp_total fs k v q)
-    ∙ crossed (eq_by_cmp (slice_cmp nat_cmp) q l) (eq_by_cmp (slice_cmp nat_cmp) q k) w v (get fs q) (λ a b. ne (sym (tied q k b) ∙ tied q l a))
-    ∙ sym (get-insert nat_list_cmp_total (insert fs l w) k v q ∙ ap (cond (eq_by_cmp (slice_cmp nat_cmp) q k) (Some v)) (get-insert nat_list_cmp_total fs l w q)))
 
 -- the name and the bytes of the first entry
 head_name : (e : List ℕ × List ℕ) (name bytes : List ℕ) → Some e ≡ Some (name, bytes) → e.0 ≡ name

@@ -1,6 +1,6 @@
 use Rattle.std.proofs.Common.{◌≡◌, ◌<◌, ℕ, List, slice_get, Some}
 use Rattle.shelf_io.specs.MemView.{entries_of}
-use Rattle.shelf_io.proofs.mem_files.place_of.Given as goal
+use Rattle.shelf_io.proofs.mem_files.index_of.Given as goal
 
 -- no file so far has the name
 abbrev pub invariant-loop-i : goal.invariant-loop-i
