@@ -2,7 +2,7 @@
 use Rattle.std.proofs.Common.{◌≡◌, ◌<◌, ℕ, zero, suc, refl, sym, subst, List, [], ◌∷◌, length, Option, Some, None, IfSome, IsSomeAnd, arith, lit<}
 use Rattle.std.specs.FinMap.{get, insert, empty}
 use Rattle.shelf_io.specs.Shelf.{Files, IsIfTold}
-use Rattle.shelf_io.proofs.FilesKept.{get_new}
+use Rattle.shelf_io.proofs.FileMaps.{get_new}
 use Rattle.ipc_top.specs.Acts.{Take, told_after, World, Did}
 use Rattle.ipc_top.specs.Ends.{IsTaken}
 

@@ -1,13 +1,12 @@
 -- A list of names and bytes as a map.
-use Rattle.std.proofs.Common.{◌≡◌, ◌<◌, ◌≤◌, ℕ, suc, zero, List, [], ◌∷◌, ◌++◌, length, refl, ap, sym, subst, ◌∙◌, Option, Some, None, Bool, true, false, cond, arith, slice_get, set, get_or, drop, string_bytes}
+use Rattle.std.proofs.Common.{◌≡◌, ◌<◌, ◌≤◌, ℕ, suc, zero, List, [], ◌∷◌, ◌++◌, length, refl, ap, sym, subst, ◌∙◌, Option, Some, None, arith, slice_get, set, get_or, drop, string_bytes}
 use Rattle.std.proofs.lemmas.List.{map-set, map-append, length-map}
 use Rattle.std.proofs.Math.Seq.{map-set_same}
 use Rattle.std.proofs.lemmas.Option.{slice_get_read, slice_get-map}
 use Rattle.std.specs.Option.{option_map}
 use Rattle.std.specs.Cmp.Lexicographic.{slice_cmp, nat_list_cmp_total}
 use Rattle.std.specs.Ordering.{nat_cmp}
-use Rattle.std.specs.FinMap.{get, insert, get-insert, get-empty, from_entries_push, get-from_entries, same_map}
-use Rattle.shelf_io.specs.Shelf.{Files}
+use Rattle.std.specs.FinMap.{get, insert, get-empty, from_entries_push, get-from_entries}
 use Rattle.shelf_io.specs.MemView.{entries_of, map_of, files_of}
 use Rattle.shelf_io.specs.Calls.{IsFirst, OpensAt}
 use Rattle.shelf_io.specs.declared.mem_files.MemFile.{MemFile}

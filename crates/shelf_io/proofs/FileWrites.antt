@@ -1,5 +1,5 @@
 -- What files hold after a write.
-use Rattle.std.proofs.Common.{◌≡◌, ◌+◌, ◌-◌, ℕ, List, [], ◌++◌, length, take, drop, refl, ap, sym, subst, ◌∙◌, Option, Some, None, IsSome, IfSome, append-nil}
+use Rattle.std.proofs.Common.{◌≡◌, ◌+◌, ◌-◌, ℕ, List, [], ◌++◌, length, take, drop, refl, ap, subst, ◌∙◌, Option, Some, None, IsSome, IfSome, append-nil}
 use Rattle.std.specs.Option.{option_map_or}
 use Rattle.shelf_io.specs.Shelf.{Files, with_file, lengthened, with_added, IsIfTold}
 use Rattle.std.specs.FinMap.{get, insert}

@@ -4,6 +4,10 @@
 #![tactic(auto)]
 
 #[cfg(test)]
+mod decimals;
+#[cfg(test)]
+mod shelves;
+#[cfg(test)]
 mod lines;
 #[cfg(test)]
 mod meshes;
