@@ -1,12 +1,15 @@
--- Fractions that are cut off at the point.
-use Rattle.std.proofs.Common.{◌≡◌, ℕ, zero, suc, ◌+◌, ◌-◌, ◌*◌, ◌/◌, ◌%◌, ◌^◌, ◌<◌, ◌≤◌, min, true, false, cond, leb, ltb, refl, sym, ◌∙◌, ap, subst, arith, mul-le-mul, inl, inr}
+-- What is known of a quotient, where its parts are scaled by powers of ten.
+use Rattle.std.proofs.Common.{◌≡◌, ℕ, zero, suc, ◌+◌, ◌-◌, ◌*◌, ◌/◌, ◌%◌, ◌^◌, ◌<◌, ◌≤◌, min, true, false, cond, leb, ltb, refl, sym, ◌∙◌, ap, subst, arith, mul-le-mul, inl, inr, List, ◌∷◌, length, get_or, take, drop, length-drop}
 use Rattle.std.proofs.Math.Nat.{le_refl, mod-lt, div-add-mod', div-eq_of_lt, mod-eq_of_lt}
 use Rattle.std.proofs.lemmas.Nat.{pow-add, div-mul-add, mod-mul-add}
 use Rattle.std.proofs.lemmas.Bool.{cases_lt}
 use Rattle.std.proofs.lemmas.Bool.Decides.{nat_tests}
-use Rattle.dec_text.specs.declared.cut.Cut.{Cut}
-use Rattle.dec_text.specs.Cut.{IsCut}
-use Rattle.dec_text.proofs.Digits.{ten_pos}
+use Rattle.dec_text.specs.declared.quotient.Quotient.{Quotient}
+use Rattle.dec_text.specs.Calls.Quotient.{IsQuotient}
+use Rattle.std.proofs.lemmas.Int.Digits.{digits_value-lt}
+use Rattle.std.proofs.lemmas.List.{take-append-drop, drop_more}
+use Rattle.std.specs.Str.Parse.{AllDigits, digits_value}
+use Rattle.dec_text.proofs.Digits.{ten_pos, digits_value-append, AllDigits-drop, leb-half}
 
 -- ---- numbers cut off at the greatest `u64`
 pub saturated_step : (s x p d v : ℕ) → v ≡ min (s * p + x) (2 ^ 64 - 1) → min (min (v * 10) (2 ^ 64 - 1) + d) (2 ^ 64 - 1) ≡ min (s * (p * 10) + (x * 10 + d)) (2 ^ 64 - 1)
@@ -26,15 +29,15 @@ saturated_join s p y h = elim (cases_lt s (2 ^ 64 - 1)) [
 ]
 
 -- ---- a cut from the quotient and the rest, and back
-pub cut_at : (n d q r : ℕ) (c : Cut) → n ≡ q * d + r → r < d → c.whole ≡ min q (2 ^ 64 - 1) → c.is_half ≡ leb d (2 * r) → c.has_rest ≡ ltb 0 r → IsCut n d c
-cut_at n d q r c e h w i j =
+pub quotient_from : (n d q r : ℕ) (c : Quotient) → n ≡ q * d + r → r < d → c.whole ≡ min q (2 ^ 64 - 1) → c.is_half ≡ leb d (2 * r) → c.has_rest ≡ ltb 0 r → IsQuotient n d c
+quotient_from n d q r c e h w i j =
     let quotient : n / d ≡ q = ap (λ m. m / d) e ∙ div-mul-add q d r h in
     let rest : n % d ≡ r = ap (λ m. m % d) e ∙ mod-mul-add q d r h in
     record { whole = rw quotient w; is_half = rw rest i; has_rest = rw rest j }
 
 -- the same cut of another fraction
-pub same_cut : (n d m b : ℕ) (c : Cut) → min (n / d) (2 ^ 64 - 1) ≡ min (m / b) (2 ^ 64 - 1) → leb d (2 * (n % d)) ≡ leb b (2 * (m % b)) → ltb 0 (n % d) ≡ ltb 0 (m % b) → IsCut n d c → IsCut m b c
-same_cut n d m b c w i j h = record { whole = h.whole ∙ w; is_half = h.is_half ∙ i; has_rest = h.has_rest ∙ j }
+pub same_quotient : (n d m b : ℕ) (c : Quotient) → min (n / d) (2 ^ 64 - 1) ≡ min (m / b) (2 ^ 64 - 1) → leb d (2 * (n % d)) ≡ leb b (2 * (m % b)) → ltb 0 (n % d) ≡ ltb 0 (m % b) → IsQuotient n d c → IsQuotient m b c
+same_quotient n d m b c w i j h = record { whole = h.whole ∙ w; is_half = h.is_half ∙ i; has_rest = h.has_rest ∙ j }
 
 -- ---- both sides of the fraction times a power of ten
 leb-mul : (a b p : ℕ) → 0 < p → leb (a * p) (b * p) ≡ leb a b
@@ -43,13 +46,13 @@ leb-mul a b p h = elim (cases_lt b a) [
   | inr above ↦ let k : a * p ≤ b * p = mul-le-mul above (le_refl p) in grind (arith, nat_tests)
 ]
 
-pub scaled_cut : (n d p : ℕ) (c : Cut) → 0 < d → 0 < p → IsCut n d c → IsCut (n * p) (d * p) c
-scaled_cut n d p c hd hp h =
+pub multiplied_quotient : (n d p : ℕ) (c : Quotient) → 0 < d → 0 < p → IsQuotient n d c → IsQuotient (n * p) (d * p) c
+multiplied_quotient n d p c hd hp h =
     let q = n / d in
     let r = n % d in
     let split : q * d + r ≡ n = div-add-mod' n d in
     let below : r < d = mod-lt n hd in
-    cut_at (n * p) (d * p) q (r * p) c (whole_is q d r p n split) (rest_below r d p hp below) h.whole
+    quotient_from (n * p) (d * p) q (r * p) c (whole_is q d r p n split) (rest_below r d p hp below) h.whole
     (h.is_half ∙ sym (leb-mul d (2 * r) p hp) ∙ ap (λ x. leb (d * p) x) (twice r p)) (h.has_rest ∙ no_rest r p hp)
   where
     whole_is : (q d r p n : ℕ) → q * d + r ≡ n → n * p ≡ q * (d * p) + r * p
@@ -91,21 +94,21 @@ zeros_at_most n i = elim (cases_lt i 20) [
 ]
 
 -- ---- fractions below a tenth
-pub far_cut : (n k i : ℕ) (c : Cut) → n < 10 ^ k → k < i → c.whole ≡ 0 → c.is_half ≡ false → c.has_rest ≡ ltb 0 n → IsCut n (10 ^ i) c
-far_cut n k i c h l w p r =
+pub far_quotient : (n k i : ℕ) (c : Quotient) → n < 10 ^ k → k < i → c.whole ≡ 0 → c.is_half ≡ false → c.has_rest ≡ ltb 0 n → IsQuotient n (10 ^ i) c
+far_quotient n k i c h l w p r =
     let big : 10 * 10 ^ k ≤ 10 ^ i = omega (arith, pow-add 10 1 k, ten_above (1 + k) i (omega arith)) in
-    cut_at n (10 ^ i) 0 n c (omega arith) (omega arith) w (p ∙ below n (10 ^ k) (10 ^ i) h big) r
+    quotient_from n (10 ^ i) 0 n c (omega arith) (omega arith) w (p ∙ below n (10 ^ k) (10 ^ i) h big) r
   where
     below : (n q p : ℕ) → n < q → 10 * q ≤ p → false ≡ leb p (2 * n)
     below n q p h k = grind (arith, nat_tests)
 
 -- ---- whole multiples
-pub grown_cut : (n up down : ℕ) (c : Cut) → down ≤ up → c.whole ≡ min (min n (2 ^ 64 - 1) * 10 ^ (up - down)) (2 ^ 64 - 1) → c.is_half ≡ false → c.has_rest ≡ false → IsCut (n * 10 ^ up) (10 ^ down) c
-grown_cut n up down c h w p r =
+pub grown_quotient : (n up down : ℕ) (c : Quotient) → down ≤ up → c.whole ≡ min (min n (2 ^ 64 - 1) * 10 ^ (up - down)) (2 ^ 64 - 1) → c.is_half ≡ false → c.has_rest ≡ false → IsQuotient (n * 10 ^ up) (10 ^ down) c
+grown_quotient n up down c h w p r =
     let k = up - down in
     let gap : k + down ≡ up = omega arith in
     let power : n * 10 ^ up ≡ n * 10 ^ k * 10 ^ down + 0 = omega (arith, ap (λ x. n * x) (ap (λ x. 10 ^ x) (sym gap) ∙ pow-add 10 k down)) in
-    cut_at (n * 10 ^ up) (10 ^ down) (n * 10 ^ k) 0 c power (ten_pos down) (w ∙ full n (10 ^ k) (ten_pos k)) (p ∙ no_half (10 ^ down) (ten_pos down)) r
+    quotient_from (n * 10 ^ up) (10 ^ down) (n * 10 ^ k) 0 c power (ten_pos down) (w ∙ full n (10 ^ k) (ten_pos k)) (p ∙ no_half (10 ^ down) (ten_pos down)) r
   where
     full : (n p : ℕ) → 0 < p → min (min n (2 ^ 64 - 1) * p) (2 ^ 64 - 1) ≡ min (n * p) (2 ^ 64 - 1)
     full n p h = let e = saturated_join n p 0 h in omega (arith, e)
@@ -114,24 +117,24 @@ grown_cut n up down c h w p r =
     no_half d h = grind (arith, nat_tests)
 
 -- ---- an exponent that is cut off at the greatest `u64` serves where the digits are fewer
-multiple : (n up down : ℕ) → down ≤ up → (n * 10 ^ up / 10 ^ down ≡ n * 10 ^ (up - down)) × (n * 10 ^ up % 10 ^ down ≡ 0)
-multiple n up down h =
+power_over_power : (n up down : ℕ) → down ≤ up → (n * 10 ^ up / 10 ^ down ≡ n * 10 ^ (up - down)) × (n * 10 ^ up % 10 ^ down ≡ 0)
+power_over_power n up down h =
     let k = up - down in
     let gap : k + down ≡ up = omega arith in
     let power : n * 10 ^ up ≡ n * 10 ^ k * 10 ^ down + 0 = omega (arith, ap (λ x. n * x) (ap (λ x. 10 ^ x) (sym gap) ∙ pow-add 10 k down)) in
     (ap (λ m. m / 10 ^ down) power ∙ div-mul-add (n * 10 ^ k) (10 ^ down) 0 (ten_pos down), ap (λ m. m % 10 ^ down) power ∙ mod-mul-add (n * 10 ^ k) (10 ^ down) 0 (ten_pos down))
 
-raised_far : (n a b down : ℕ) (c : Cut) → down + 20 ≤ a → down + 20 ≤ b → IsCut (n * 10 ^ a) (10 ^ down) c → IsCut (n * 10 ^ b) (10 ^ down) c
+raised_far : (n a b down : ℕ) (c : Quotient) → down + 20 ≤ a → down + 20 ≤ b → IsQuotient (n * 10 ^ a) (10 ^ down) c → IsQuotient (n * 10 ^ b) (10 ^ down) c
 raised_far n a b down c ha hb h =
-    let p = multiple n a down (omega arith) in
-    let q = multiple n b down (omega arith) in
-    same_cut (n * 10 ^ a) (10 ^ down) (n * 10 ^ b) (10 ^ down) c
+    let p = power_over_power n a down (omega arith) in
+    let q = power_over_power n b down (omega arith) in
+    same_quotient (n * 10 ^ a) (10 ^ down) (n * 10 ^ b) (10 ^ down) c
     (ap (λ m. min m (2 ^ 64 - 1)) p.0 ∙ many_zeros n (a - down) (b - down) (omega arith) (omega arith) ∙ ap (λ m. min m (2 ^ 64 - 1)) (sym q.0))
     (ap (λ m. leb (10 ^ down) (2 * m)) (p.1 ∙ sym q.1)) (ap (λ m. ltb 0 m) (p.1 ∙ sym q.1)) h
 
-pub raised_enough : (n digits size e down : ℕ) (c : Cut) → size ≡ min e (2 ^ 64 - 1) → down < 2 ^ 63 → IsCut (n * 10 ^ (digits + size)) (10 ^ down) c → IsCut (n * 10 ^ (digits + e)) (10 ^ down) c
+pub raised_enough : (n digits size e down : ℕ) (c : Quotient) → size ≡ min e (2 ^ 64 - 1) → down < 2 ^ 63 → IsQuotient (n * 10 ^ (digits + size)) (10 ^ down) c → IsQuotient (n * 10 ^ (digits + e)) (10 ^ down) c
 raised_enough n digits size e down c s l h = elim (cases_lt e (2 ^ 64 - 1)) [
-  | inl low ↦ let same : size ≡ e = omega arith in subst (λ k. IsCut (n * 10 ^ (digits + k)) (10 ^ down) c) same h
+  | inl low ↦ let same : size ≡ e = omega arith in subst (λ k. IsQuotient (n * 10 ^ (digits + k)) (10 ^ down) c) same h
   | inr high ↦ raised_far n (digits + size) (digits + e) down c (omega arith) (omega arith) h
 ]
 
@@ -144,17 +147,17 @@ below_tenth n k i l h =
     no_half : (n q p : ℕ) → n < q → 10 * q ≤ p → leb p (2 * n) ≡ false
     no_half n q p h k = grind (arith, nat_tests)
 
-lowered_far : (n k a b : ℕ) (c : Cut) → n < 10 ^ k → k < a → k < b → IsCut n (10 ^ a) c → IsCut n (10 ^ b) c
+lowered_far : (n k a b : ℕ) (c : Quotient) → n < 10 ^ k → k < a → k < b → IsQuotient n (10 ^ a) c → IsQuotient n (10 ^ b) c
 lowered_far n k a b c l ha hb h =
     let p = below_tenth n k a l ha in
     let q = below_tenth n k b l hb in
-    same_cut n (10 ^ a) n (10 ^ b) c (ap (λ m. min m (2 ^ 64 - 1)) (p.0 ∙ sym q.0))
+    same_quotient n (10 ^ a) n (10 ^ b) c (ap (λ m. min m (2 ^ 64 - 1)) (p.0 ∙ sym q.0))
     (ap (λ m. leb (10 ^ a) (2 * m)) p.1 ∙ p.2 ∙ sym q.2 ∙ ap (λ m. leb (10 ^ b) (2 * m)) (sym q.1))
     (ap (λ m. ltb 0 m) (p.1 ∙ sym q.1)) h
 
-pub lowered_enough : (n count digits size e down : ℕ) (c : Cut) → n < 10 ^ count → size ≡ min e (2 ^ 64 - 1) → count + digits < down + (2 ^ 64 - 1) → IsCut (n * 10 ^ digits) (10 ^ (down + size)) c → IsCut (n * 10 ^ digits) (10 ^ (down + e)) c
+pub lowered_enough : (n count digits size e down : ℕ) (c : Quotient) → n < 10 ^ count → size ≡ min e (2 ^ 64 - 1) → count + digits < down + (2 ^ 64 - 1) → IsQuotient (n * 10 ^ digits) (10 ^ (down + size)) c → IsQuotient (n * 10 ^ digits) (10 ^ (down + e)) c
 lowered_enough n count digits size e down c l s far h = elim (cases_lt e (2 ^ 64 - 1)) [
-  | inl low ↦ let same : size ≡ e = omega arith in subst (λ k. IsCut (n * 10 ^ digits) (10 ^ (down + k)) c) same h
+  | inl low ↦ let same : size ≡ e = omega arith in subst (λ k. IsQuotient (n * 10 ^ digits) (10 ^ (down + k)) c) same h
   | inr high ↦ lowered_far (n * 10 ^ digits) (count + digits) (down + size) (down + e) c below (omega arith) (omega arith) h
 ]
   where
@@ -179,3 +182,22 @@ nearest_is n d h = by_half (n / d) (n % d) (div-add-mod' n d) (mod-lt n h)
           let split : 2 * n + d ≡ (q + 1) * (2 * d) + (2 * r - d) = omega (arith, ap (λ x. 2 * x) e) in
           rw t (ap (λ m. m / (2 * d)) split ∙ div-mul-add (q + 1) (2 * d) (2 * r - d) (omega arith))
     ]
+
+-- ---- the first digits are the whole part, and the next says whether the others are a half
+pub front_is_quotient : (ds : List ℕ) (count k : ℕ) (c : Quotient) → AllDigits 10 ds → count < length ds → k ≡ length ds - count → c.whole ≡ min (digits_value 10 (take count ds)) (2 ^ 64 - 1) → c.is_half ≡ leb 53 (get_or ds count 0) → c.has_rest ≡ ltb 0 (digits_value 10 (drop count ds)) → IsQuotient (digits_value 10 ds) (10 ^ k) c
+front_is_quotient ds count k c h within e w p r =
+    let front = take count ds in
+    let back = drop count ds in
+    let size : length back ≡ k = length-drop count ds ∙ sym e in
+    let parts : digits_value 10 ds ≡ digits_value 10 front * 10 ^ k + digits_value 10 back =
+    ap (digits_value 10) (sym (take-append-drop count ds)) ∙ digits_value-append front back ∙ ap (λ n. digits_value 10 front * 10 ^ n + digits_value 10 back) size in
+    let below : digits_value 10 back < 10 ^ k = subst (λ n. digits_value 10 back < 10 ^ n) size (digits_value-lt 10 back (AllDigits-drop count ds h)) in
+    quotient_from (digits_value 10 ds) (10 ^ k) (digits_value 10 front) (digits_value 10 back) c parts below w (p ∙ half size) r
+  where
+    half : length (drop count ds) ≡ k → leb 53 (get_or ds count 0) ≡ leb (10 ^ k) (2 * digits_value 10 (drop count ds))
+    half size =
+        let first = drop_more ds count 0 within in
+        let digits : AllDigits 10 (get_or ds count 0 ∷ drop (count + 1) ds) = subst (AllDigits 10) first (AllDigits-drop count ds h) in
+        sym (leb-half (get_or ds count 0) (drop (count + 1) ds) digits)
+        ∙ ap (λ xs. leb (10 ^ length xs) (2 * digits_value 10 xs)) (sym first)
+        ∙ ap (λ n. leb (10 ^ n) (2 * digits_value 10 (drop count ds))) size

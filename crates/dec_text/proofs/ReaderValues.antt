@@ -1,18 +1,20 @@
--- What a text that was cut into its parts is worth on the grid.
-use Rattle.std.proofs.Common.{◌≡◌, ℕ, ◌+◌, ◌-◌, ◌*◌, ◌^◌, ◌<◌, min, Bool, true, false, cond, leb, ltb, ◌&&◌, ◌||◌, not, List, [], ◌∷◌, ◌++◌, length, Err, IsTrue, true≢false, refl, sym, subst, arith, inl, inr}
+-- What a text is worth on the grid, by its parts.
+use Rattle.std.proofs.Common.{◌≡◌, ℕ, ◌+◌, ◌-◌, ◌*◌, ◌^◌, ◌<◌, min, Bool, true, false, cond, leb, ltb, ◌&&◌, ◌||◌, not, List, [], ◌∷◌, ◌++◌, length, zero, suc, Some, Err, IsTrue, true≢false, refl, sym, ◌∙◌, ap, subst, arith, inl, inr}
 use Rattle.std.proofs.lemmas.Bool.{cases_lt, and_parts, leb-true}
 use Rattle.std.proofs.lemmas.Bool.Decides.{nat_tests}
 use Rattle.std.proofs.lemmas.Str.{digit_value_digit}
 use Rattle.std.specs.Char.{digit_value, is_ascii_digit}
 use Rattle.std.specs.List.{list_all, list_any}
 use Rattle.std.specs.Str.Parse.{AllDigits, digits_value, starts_with_minus, without_leading_sign}
-use Rattle.dec_text.specs.declared.cut.Cut.{Cut}
+use Rattle.dec_text.specs.declared.quotient.Quotient.{Quotient}
 use Rattle.dec_text.specs.declared.Snap.{Snap}
 use Rattle.dec_text.specs.declared.DecErr.TheVariants.{NotDecimal}
-use Rattle.dec_text.specs.Cut.{IsCut}
-use Rattle.dec_text.specs.Decimal.{is_mark, is_numeral, whole, fraction, exponent, is_decimal, is_negative, all_digits, exponent_size, tens_up, tens_down}
+use Rattle.dec_text.specs.Calls.Quotient.{IsQuotient}
+use Rattle.dec_text.specs.Calls.Reader.{is_mark, is_numeral, whole, fraction, exponent, is_decimal, exponent_size, parts_of, decimal_of}
+use Rattle.dec_text.specs.Decimal.{Decimal, with_sign, numerator, denominator, tens_up, tens_down}
+use Rattle.dec_text.specs.declared.TheConstants.{GREATEST_SIZE}
 use Rattle.dec_text.proofs.Digits.{ten_pos}
-use Rattle.dec_text.specs.Grid.{numerator, denominator, in_box, snapped, grid_value}
+use Rattle.dec_text.specs.Grid.{place_in_box, place_of, grid_value}
 
 -- ---- a numeral's bytes are digits
 pub AllDigits-list_all : (ds : List ℕ) → list_all is_ascii_digit ds ≡ true → AllDigits 10 ds
@@ -34,36 +36,57 @@ AllDigits-both [] ys h = (tt, h)
 AllDigits-both (x ∷ xs) ys h = let both = AllDigits-both xs ys h.1 in ((h.0, both.0), both.1)
 
 -- ---- the box
-pub in_box-min : (negative : Bool) (n : ℕ) → in_box negative (min n (2 ^ 64 - 1)) ≡ in_box negative n
-in_box-min negative n = elim (cases_lt n (2 ^ 64 - 1)) [
+pub place_in_box-min : (negative : Bool) (n : ℕ) → place_in_box negative (min n (2 ^ 64 - 1)) ≡ place_in_box negative n
+place_in_box-min negative n = elim (cases_lt n (2 ^ 64 - 1)) [
   | inl low ↦ let e : min n (2 ^ 64 - 1) ≡ n = omega arith in rw e refl
   | inr high ↦
       let e : min n (2 ^ 64 - 1) ≡ 2 ^ 64 - 1 = omega arith in
-      let t : leb n (2 ^ 20) ≡ false = grind (arith, nat_tests) in
+      let t : leb n GREATEST_SIZE ≡ false = grind (arith, nat_tests) in
       rw (e, t) refl
 ]
 
 -- ---- the value on the grid
 pub grid_value-refused : (text : List ℕ) (digits : ℕ) (snap : Snap) → is_decimal text ≡ false → Err NotDecimal ≡ grid_value text digits snap
-unfolding grid_value
+unfolding grid_value decimal_of
 grid_value-refused text digits snap h = rw h refl
 
-pub grid_value-read : (text : List ℕ) (digits : ℕ) (snap : Snap) → is_decimal text ≡ true → grid_value text digits snap ≡ snapped (is_negative text) (numerator text digits) (denominator text) snap
-unfolding grid_value
+pub grid_value-read : (text : List ℕ) (digits : ℕ) (snap : Snap) → is_decimal text ≡ true → grid_value text digits snap ≡ place_of (Some (parts_of text)) digits snap
+unfolding grid_value decimal_of
 grid_value-read text digits snap h = rw h refl
+
+pub grid_value-is : (text : List ℕ) (digits : ℕ) (snap : Snap) → grid_value text digits snap ≡ place_of (decimal_of text) digits snap
+unfolding grid_value
+grid_value-is text digits snap = refl
 
 pub is_decimal-is : (text : List ℕ) → is_decimal text ≡ (is_numeral (whole text ++ fraction text) && (not (list_any is_mark text) || is_numeral (without_leading_sign (exponent text))))
 unfolding is_decimal
 is_decimal-is text = refl
 
-pub value_cut : (text : List ℕ) (digits : ℕ) (w f : List ℕ) (down : Bool) (c : Cut) → w ≡ whole text → f ≡ fraction text → down ≡ starts_with_minus (exponent text)
-    → IsCut (digits_value 10 (w ++ f) * 10 ^ (digits + cond down 0 (exponent_size text))) (10 ^ (length f + cond down (exponent_size text) 0)) c
-    → IsCut (numerator text digits) (denominator text) c
-unfolding numerator denominator tens_up tens_down all_digits
-value_cut text digits w f down c p q r h =
-    subst (λ d. IsCut (numerator text digits) d c) (λ i. 10 ^ (length (q i) + cond (r i) (exponent_size text) 0))
-    (subst (λ n. IsCut n (10 ^ (length f + cond down (exponent_size text) 0)) c)
-    (λ i. digits_value 10 (p i ++ q i) * 10 ^ (digits + cond (r i) 0 (exponent_size text))) h)
+tens_up-is : (negative : Bool) (n : ℕ) → tens_up (with_sign negative n) ≡ cond negative 0 n
+tens_up-is true zero = refl
+tens_up-is true (suc n) = refl
+tens_up-is false n = refl
+
+tens_down-is : (negative : Bool) (n : ℕ) → tens_down (with_sign negative n) ≡ cond negative n 0
+tens_down-is true zero = refl
+tens_down-is true (suc n) = refl
+tens_down-is false n = refl
+
+numerator-is : (text : List ℕ) (digits : ℕ) → numerator (parts_of text) digits ≡ digits_value 10 (whole text ++ fraction text) * 10 ^ (digits + cond (starts_with_minus (exponent text)) 0 (exponent_size text))
+unfolding numerator exponent_size
+numerator-is text digits = ap (λ n. digits_value 10 (whole text ++ fraction text) * 10 ^ (digits + n)) (tens_up-is (starts_with_minus (exponent text)) (digits_value 10 (without_leading_sign (exponent text))))
+
+denominator-is : (text : List ℕ) → denominator (parts_of text) ≡ 10 ^ (length (fraction text) + cond (starts_with_minus (exponent text)) (exponent_size text) 0)
+unfolding denominator exponent_size
+denominator-is text = ap (λ n. 10 ^ (length (fraction text) + n)) (tens_down-is (starts_with_minus (exponent text)) (digits_value 10 (without_leading_sign (exponent text))))
+
+pub value_quotient : (text : List ℕ) (digits : ℕ) (w f : List ℕ) (down : Bool) (c : Quotient) → w ≡ whole text → f ≡ fraction text → down ≡ starts_with_minus (exponent text)
+    → IsQuotient (digits_value 10 (w ++ f) * 10 ^ (digits + cond down 0 (exponent_size text))) (10 ^ (length f + cond down (exponent_size text) 0)) c
+    → IsQuotient (numerator (parts_of text) digits) (denominator (parts_of text)) c
+value_quotient text digits w f down c p q r h =
+    subst (λ d. IsQuotient (numerator (parts_of text) digits) d c) ((λ i. 10 ^ (length (q i) + cond (r i) (exponent_size text) 0)) ∙ sym (denominator-is text))
+    (subst (λ n. IsQuotient n (10 ^ (length f + cond down (exponent_size text) 0)) c)
+    ((λ i. digits_value 10 (p i ++ q i) * 10 ^ (digits + cond (r i) 0 (exponent_size text))) ∙ sym (numerator-is text digits)) h)
 
 -- ---- the parts of a decimal are digits
 pub decimal_digits : (w f x : List ℕ) (has : Bool) → (is_numeral (w ++ f) && (not has || is_numeral (without_leading_sign x))) ≡ true → (¬ (IsTrue has) → x ≡ []) → AllDigits 10 w × AllDigits 10 f × AllDigits 10 (without_leading_sign x)
@@ -76,9 +99,9 @@ decimal_digits w f x has h none =
     power true h none = AllDigits-is_numeral (without_leading_sign x) h
     power false h none = subst (λ y. AllDigits 10 (without_leading_sign y)) (sym (none (λ t. absurd (true≢false (sym t))))) tt
 
-pub denominator_pos : (text : List ℕ) → 0 < denominator text
+pub denominator_pos : (d : Decimal) → 0 < denominator d
 unfolding denominator
-denominator_pos text = ten_pos (tens_down text)
+denominator_pos d = ten_pos (length d.behind + tens_down d.exponent)
 
 pub exponent_size-is : (text : List ℕ) → exponent_size text ≡ digits_value 10 (without_leading_sign (exponent text))
 unfolding exponent_size

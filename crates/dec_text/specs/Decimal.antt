@@ -1,56 +1,67 @@
--- A decimal in a text: a sign, digits with at most one point among, before or after them, and an exponent.
-use Rattle.std.specs.Prelude.{ℕ, ◌+◌, Bool, ◌&&◌, ◌||◌, not, List, ◌++◌, length, nat_lt, ◌==◌, if◌then◌else◌}
-use Rattle.std.specs.Char.{is_ascii_digit}
-use Rattle.std.specs.List.{list_all, list_any, before_first, after_first}
-use Rattle.std.specs.Str.Parse.{digits_value, without_leading_sign, starts_with_minus}
+-- A decimal: how it is written, and what it is worth.
+use Rattle.std.specs.Prelude.{◌≡◌, ℕ, suc, ◌+◌, ◌*◌, ◌^◌, ◌⊎◌, Bool, true, false, List, [], ◌∷◌, ◌++◌, length, ℤ, pos, negsuc, neg_ℤ, unsigned_abs, if◌then◌else◌}
+use Rattle.std.specs.Str.Parse.{IsNumeral, digits_value}
 
--- the point
-abbrev pub is_point : ℕ → Bool
-is_point b = b == 46
+-- a sign, the digits before and after the point, and an exponent
+pub record Decimal : Type 0 where
+  pub negative : Bool
+  pub before : List ℕ
+  pub behind : List ℕ
+  pub exponent : ℤ
 
--- `e` or `E`, the mark before an exponent
-abbrev pub is_mark : ℕ → Bool
-is_mark b = b == 101 || b == 69
+-- `-` where it is negative, and else `+` or nothing
+abbrev pub IsSign : Bool → List ℕ → Type 0
+IsSign true sign = sign ≡ 45 ∷ []
+IsSign false sign = (sign ≡ []) ⊎ (sign ≡ 43 ∷ [])
 
--- one digit or more, and nothing else
-abbrev pub is_numeral : List ℕ → Bool
-is_numeral bs = nat_lt 0 (length bs) && list_all is_ascii_digit bs
+-- n with a sign
+abbrev pub with_sign : Bool → ℕ → ℤ
+with_sign negative n = if negative then neg_ℤ (pos n) else pos n
 
--- what stands before the exponent, without its sign
-abbrev pub coefficient : List ℕ → List ℕ
-coefficient text = without_leading_sign (before_first is_mark text)
+-- a point, or nothing where no digit stands behind it
+abbrev pub IsPoint : List ℕ → List ℕ → Type 0
+IsPoint behind point = (point ≡ 46 ∷ []) ⊎ ((point ≡ []) × (behind ≡ []))
 
--- what stands before the point, and what stands after it
-abbrev pub whole : List ℕ → List ℕ
-whole text = before_first is_point (coefficient text)
+-- `e` or `E`, a sign or none, and digits, which are the exponent
+pub record IsPower (exponent : ℤ) (power : List ℕ) : Type 0 where
+  pub mark : ℕ
+  pub negative : Bool
+  pub sign : List ℕ
+  pub digits : List ℕ
+  pub power_is : power ≡ mark ∷ (sign ++ digits)
+  pub mark_is : (mark ≡ 101) ⊎ (mark ≡ 69)
+  pub is_sign : IsSign negative sign
+  pub is_numeral : IsNumeral 10 digits
+  pub exponent_is : exponent ≡ with_sign negative (digits_value 10 digits)
 
-abbrev pub fraction : List ℕ → List ℕ
-fraction text = after_first is_point (coefficient text)
+-- The text is this decimal: a sign or none, digits with at most one point among, before or after them, one digit at least, and a power of ten. Where none is written the exponent is 0.
+pub record IsDecimal (text : List ℕ) (d : Decimal) : Type 0 where
+  pub sign : List ℕ
+  pub point : List ℕ
+  pub power : List ℕ
+  pub text_is : text ≡ sign ++ ((d.before ++ (point ++ d.behind)) ++ power)
+  pub is_sign : IsSign d.negative sign
+  pub is_numeral : IsNumeral 10 (d.before ++ d.behind)
+  pub point_is : IsPoint d.behind point
+  pub power_is : ((power ≡ []) × (d.exponent ≡ pos 0)) ⊎ IsPower d.exponent power
 
--- what stands after the mark: the exponent with its sign
-abbrev pub exponent : List ℕ → List ℕ
-exponent text = after_first is_mark text
+-- an exponent above 0, and one below 0 without its sign
+abbrev pub tens_up : ℤ → ℕ
+tens_up (pos n) = n
+tens_up (negsuc n) = 0
 
--- The text is a decimal: digits stand before and after the point, one at least, and an exponent has digits after its sign.
-unfoldable pub is_decimal : List ℕ → Bool
-is_decimal text =
-    is_numeral (whole text ++ fraction text)
-    && (not (list_any is_mark text) || is_numeral (without_leading_sign (exponent text)))
+abbrev pub tens_down : ℤ → ℕ
+tens_down (pos n) = 0
+tens_down (negsuc n) = suc n
 
-abbrev pub is_negative : List ℕ → Bool
-is_negative text = starts_with_minus text
+-- Without its sign and times 10 ^ digits the decimal is numerator / denominator: all its digits are one whole number, from which the digits behind the point and the exponent shift the point.
+unfoldable pub numerator : Decimal → ℕ → ℕ
+numerator d digits = digits_value 10 (d.before ++ d.behind) * 10 ^ (digits + tens_up d.exponent)
 
--- all digits before the exponent, read as one whole number
-unfoldable pub all_digits : List ℕ → ℕ
-all_digits text = digits_value 10 (whole text ++ fraction text)
+unfoldable pub denominator : Decimal → ℕ
+denominator d = 10 ^ (length d.behind + tens_down d.exponent)
 
--- the size of the exponent
-unfoldable pub exponent_size : List ℕ → ℕ
-exponent_size text = digits_value 10 (without_leading_sign (exponent text))
-
--- The decimal is worth all_digits * 10 ^ tens_up / 10 ^ tens_down, with the text's sign.
-unfoldable pub tens_up : List ℕ → ℕ
-tens_up text = if starts_with_minus (exponent text) then 0 else exponent_size text
-
-unfoldable pub tens_down : List ℕ → ℕ
-tens_down text = length (fraction text) + (if starts_with_minus (exponent text) then exponent_size text else 0)
+-- it is worth exactly v / 10 ^ digits
+pub record IsWorth (d : Decimal) (v : ℤ) (digits : ℕ) : Type 0 where
+  pub size : unsigned_abs v * denominator d ≡ numerator d digits
+  pub sign : v ≡ with_sign d.negative (unsigned_abs v)

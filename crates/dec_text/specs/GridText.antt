@@ -1,5 +1,6 @@
 -- The shortest decimal of a place on the grid.
-use Rattle.std.specs.Prelude.{ℕ, zero, suc, ◌+◌, ◌/◌, ◌%◌, ◌^◌, List, [], ◌∷◌, ◌++◌, ℤ, pos, negsuc, ◌==◌, if◌then◌else◌, unsigned_abs, decimal}
+use Rattle.std.specs.Prelude.{◌≡◌, ℕ, zero, suc, ◌+◌, ◌/◌, ◌%◌, ◌^◌, List, [], ◌∷◌, ◌++◌, ℤ, pos, negsuc, ◌==◌, if◌then◌else◌, unsigned_abs, decimal}
+use Rattle.dec_text.specs.Decimal.{Decimal, IsDecimal, IsWorth}
 
 -- the digits of rest / 10 ^ digits after the point, up to the last that isn't 0
 unfoldable pub fraction_digits : ℕ → ℕ → List ℕ
@@ -23,3 +24,10 @@ size_text size digits = decimal (size / 10 ^ digits) ++ fraction_text digits (si
 -- v / 10 ^ digits
 unfoldable pub grid_decimal : ℤ → ℕ → List ℕ
 grid_decimal v digits = minus_text v ++ size_text (unsigned_abs v) digits
+
+-- The text is a decimal worth exactly v / 10 ^ digits, and its fraction doesn't end with a 0.
+pub record IsDecimalFor (v : ℤ) (digits : ℕ) (text : List ℕ) : Type 0 where
+  pub decimal_is : Decimal
+  pub is_decimal : IsDecimal text decimal_is
+  pub worth : IsWorth decimal_is v digits
+  pub no_last_zero : (front : List ℕ) → ¬ (decimal_is.behind ≡ front ++ 48 ∷ [])

@@ -1,6 +1,5 @@
-pub mod Adds
-pub mod Cut
 pub mod Decimal
-pub mod Grammar
 pub mod Grid
 pub mod GridText
+pub mod AddsText
+pub mod Calls

@@ -1,9 +1,9 @@
-//! A decimal cut into its parts.
+//! A text as the parts of a decimal.
 ghost use Rattle.std.specs.Prelude.{◌≡◌, ◌≤◌, ◌+◌, [], ◌++◌, IsTrue, ◌&&◌, ◌||◌, not, length, drop};
 ghost use Rattle.std.specs.List.{position, position_or_len, list_any, list_all};
 ghost use Rattle.std.specs.Char.{is_ascii_digit};
 ghost use Rattle.std.specs.Str.Parse.{without_leading_sign, starts_with_minus};
-ghost use Rattle.dec_text.specs.Decimal.{is_point, is_mark, is_numeral, whole, fraction, exponent};
+ghost use Rattle.dec_text.specs.Calls.Reader.{is_point, is_mark, is_numeral, coefficient, whole, fraction, exponent};
 
 /// What stands where in a text, whether it is a decimal or not.
 #[derive(Drop)]
@@ -15,10 +15,58 @@ pub(crate) struct Parts<'a> {
     pub exponent: &'a [u8],
 }
 
+impl<'a> Parts<'a> {
+    pub fn of(text: &'a [u8]) -> Parts<'a>
+        ensures negative { result.negative ≡ starts_with_minus (coefficient text.now) }
+        ensures whole { result.whole.now ≡ whole text.now }
+        ensures fraction { result.fraction.now ≡ fraction text.now }
+        ensures has_exponent { result.has_exponent ≡ list_any is_mark text.now }
+        ensures exponent { result.exponent.now ≡ exponent text.now }
+        ensures no_exponent { ¬ (IsTrue result.has_exponent) → result.exponent.now ≡ [] }
+    {
+        let mark = mark_index(text);
+        let coefficient = unsigned(&text[..mark]);
+        let point = point_index(coefficient);
+        Parts {
+            negative: is_minus_first(&text[..mark]),
+            whole: &coefficient[..point],
+            fraction: bytes_behind(coefficient, point),
+            has_exponent: mark < text.len(),
+            exponent: bytes_behind(text, mark),
+        }
+    }
+
+    pub fn is_decimal(&self) -> bool
+        ensures { result ≡ (is_numeral (self.now.whole.now ++ self.now.fraction.now)
+            && (not self.now.has_exponent || is_numeral (without_leading_sign self.now.exponent.now))) }
+    {
+        let exponent = unsigned(self.exponent);
+        let digits = !self.whole.is_empty() || !self.fraction.is_empty();
+        let power = !self.has_exponent || (!exponent.is_empty() && are_digits(exponent));
+        digits && power && are_digits(self.whole) && are_digits(self.fraction)
+    }
+}
+
+/// Where the mark of an exponent stands, or the end.
+fn mark_index(text: &[u8]) -> usize
+    ensures index { result ≡ position_or_len is_mark text.now }
+    ensures within { result ≤ length text.now }
+{
+    first_mark(text).unwrap_or(text.len())
+}
+
 fn first_mark(text: &[u8]) -> Option<usize>
     ensures { result ≡ position is_mark text.now }
 {
     text.iter().position(|b| *b == b'e' || *b == b'E')
+}
+
+/// Where the point stands, or the end.
+fn point_index(text: &[u8]) -> usize
+    ensures index { result ≡ position_or_len is_point text.now }
+    ensures within { result ≤ length text.now }
+{
+    first_point(text).unwrap_or(text.len())
 }
 
 fn first_point(text: &[u8]) -> Option<usize>
@@ -27,24 +75,8 @@ fn first_point(text: &[u8]) -> Option<usize>
     text.iter().position(|b| *b == b'.')
 }
 
-/// Where the mark of an exponent stands, or the end.
-fn mark_at(text: &[u8]) -> usize
-    ensures place { result ≡ position_or_len is_mark text.now }
-    ensures within { result ≤ length text.now }
-{
-    first_mark(text).unwrap_or(text.len())
-}
-
-/// Where the point stands, or the end.
-fn point_at(text: &[u8]) -> usize
-    ensures place { result ≡ position_or_len is_point text.now }
-    ensures within { result ≤ length text.now }
-{
-    first_point(text).unwrap_or(text.len())
-}
-
-/// What follows the byte at a place; nothing where the place is the end.
-fn after(text: &[u8], at: usize) -> &[u8]
+/// What stands behind the byte at an index; nothing where the index is the end.
+fn bytes_behind(text: &[u8], at: usize) -> &[u8]
     requires { at ≤ length text.now }
     ensures { result.now ≡ drop (at + 1) text.now }
 {
@@ -71,40 +103,8 @@ pub(crate) fn unsigned(text: &[u8]) -> &[u8]
     }
 }
 
-fn all_digits(bytes: &[u8]) -> bool
+fn are_digits(bytes: &[u8]) -> bool
     ensures { result ≡ list_all is_ascii_digit bytes.now }
 {
     bytes.iter().all(|b| b.is_ascii_digit())
-}
-
-impl<'a> Parts<'a> {
-    pub fn of(text: &'a [u8]) -> Parts<'a>
-        ensures negative { result.negative ≡ starts_with_minus text.now }
-        ensures whole { result.whole.now ≡ whole text.now }
-        ensures fraction { result.fraction.now ≡ fraction text.now }
-        ensures has_exponent { result.has_exponent ≡ list_any is_mark text.now }
-        ensures exponent { result.exponent.now ≡ exponent text.now }
-        ensures no_exponent { ¬ (IsTrue result.has_exponent) → result.exponent.now ≡ [] }
-    {
-        let mark = mark_at(text);
-        let coefficient = unsigned(&text[..mark]);
-        let point = point_at(coefficient);
-        Parts {
-            negative: is_minus_first(text),
-            whole: &coefficient[..point],
-            fraction: after(coefficient, point),
-            has_exponent: mark < text.len(),
-            exponent: after(text, mark),
-        }
-    }
-
-    pub fn is_decimal(&self) -> bool
-        ensures { result ≡ (is_numeral (self.now.whole.now ++ self.now.fraction.now)
-            && (not self.now.has_exponent || is_numeral (without_leading_sign self.now.exponent.now))) }
-    {
-        let exponent = unsigned(self.exponent);
-        let digits = !self.whole.is_empty() || !self.fraction.is_empty();
-        let power = !self.has_exponent || (!exponent.is_empty() && all_digits(exponent));
-        digits && power && all_digits(self.whole) && all_digits(self.fraction)
-    }
 }

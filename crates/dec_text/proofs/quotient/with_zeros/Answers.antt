@@ -1,7 +1,7 @@
 use Rattle.std.proofs.Common.{◌≡◌, ◌+◌, ◌-◌, ◌*◌, ◌^◌, min, ap, ◌∙◌, arith}
 use Rattle.std.proofs.lemmas.Nat.{pow-add}
-use Rattle.dec_text.proofs.Fractions.{zeros_at_most, saturated_more}
-use Rattle.dec_text.proofs.cut.with_zeros.Goals as goal
+use Rattle.dec_text.proofs.Quotients.{zeros_at_most, saturated_more}
+use Rattle.dec_text.proofs.quotient.with_zeros.Goals as goal
 
 pub returns : goal.returns
 returns c =

@@ -4,8 +4,8 @@ use Rattle.std.proofs.lemmas.Nat.{pow-add}
 use Rattle.std.proofs.lemmas.Str.{digit_value_digit}
 use Rattle.std.proofs.lemmas.Str.Parse.{digit_at}
 use Rattle.std.specs.Str.Parse.{digits_value}
-use Rattle.dec_text.proofs.Fractions.{saturated_step}
-use Rattle.dec_text.proofs.cut.appended.Goals as goal
+use Rattle.dec_text.proofs.Quotients.{saturated_step}
+use Rattle.dec_text.proofs.quotient.number_behind.Goals as goal
 
 pub overflow_sub-digit : goal.overflow_sub-digit
 overflow_sub-digit c = (digit_at c.args.digits.now c.loop-digit.digit-index c.requires (omega arith)).0

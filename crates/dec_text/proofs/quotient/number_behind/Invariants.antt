@@ -1,6 +1,6 @@
 use Rattle.std.proofs.Common.{◌≡◌, ◌+◌, ◌-◌, ◌*◌, ◌^◌, min, take}
 use Rattle.std.specs.Str.Parse.{digits_value}
-use Rattle.dec_text.proofs.cut.appended.Given as goal
+use Rattle.dec_text.proofs.quotient.number_behind.Given as goal
 
 abbrev pub invariant-loop-digit : goal.invariant-loop-digit
 invariant-loop-digit l =
