@@ -2,9 +2,10 @@
 use Rattle.std.proofs.Common.{◌≡◌, ◌∙◌, ℕ, ◌≤◌, ℤ, List, refl, ap, sym, subst}
 use Rattle.space3.specs.declared.vectors.V3.{V3}
 use Rattle.potential_sum.specs.Terms.{FrameTerms, terms_of}
+use Rattle.line_search.specs.declared.step.Step.{Step}
 use Rattle.frame_driver.specs.declared.end.FrameEnd.{FrameEnd}
 use Rattle.frame_driver.specs.Frames.{IsFrame, EndsAt, last_after}
-use Rattle.frame_driver.specs.Descents.{Descends}
+use Rattle.frame_driver.specs.Calls.Descents.{Descends}
 use Rattle.frame_driver.specs.Sims.{SimState, Advances}
 use Rattle.frame_driver.proofs.UprightPaths.{frame_upright}
 
@@ -18,17 +19,17 @@ descent_advances : (old : SimState) (last : List V3) (end : FrameEnd)
     → Advances end old (moved_on old last old.places)
 descent_advances old last end descent =
     let terms : FrameTerms = terms_of old.setup old.places old.before in
-    let steps : List (List V3) = descent.so_far.steps in
+    let steps : List Step = descent.come.steps in
     let frame : IsFrame old.setup old.tol old.budget old.places old.before (record { steps = steps; end = end }) = record {
-      few = subst (λ (n : ℕ). n ≤ old.budget) (sym descent.so_far.counted) descent.few;
-      steps = descent.so_far.follow;
-      ends = subst (λ (n : ℕ). EndsAt old.setup old.tol old.budget terms n (last_after old.places steps) end) (sym descent.so_far.counted)
-          (subst (λ (x : List V3). EndsAt old.setup old.tol old.budget terms descent.taken x end) (sym descent.so_far.last) descent.ends);
+      few = subst (λ (n : ℕ). n ≤ old.budget) (sym descent.come.counted) descent.few;
+      steps = descent.come.follow;
+      ends = subst (λ (n : ℕ). EndsAt old.setup old.tol old.budget terms n (last_after old.places steps) end) (sym descent.come.counted)
+          (subst (λ (x : List V3). EndsAt old.setup old.tol old.budget terms descent.taken x end) (sym descent.come.last) descent.ends);
     } in
     record {
       steps = steps;
       frame = frame;
-      places = sym descent.so_far.last;
+      places = sym descent.come.last;
       before = refl;
       setup = refl;
       tol = refl;

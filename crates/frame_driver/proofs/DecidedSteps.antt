@@ -1,12 +1,12 @@
 -- What can be decided of a step: whether it is accepted, and so whether places have a step or are at rest.
 use Rattle.std.proofs.Common.{◌≡◌, ℕ, ◌+◌, ◌^◌, ℤ, pos, ◌+ℤ◌, ◌≤ℤ◌, ◌<ℤ◌, List, ◌⊎◌, inl, inr, refl, unsigned_abs}
-use Rattle.std.specs.Prelude.{IsTrue}
 use Rattle.std.proofs.Math.Decide.{dec_le}
 use Rattle.std.proofs.Math.IntN.{ℤ_discrete}
 use Rattle.space3.specs.declared.vectors.V3.{V3}
 use Rattle.space3.specs.Vectors.{AtMost, Within, vector, origin, determinant}
 use Rattle.space3.specs.Box.{IsInTheBox}
 use Rattle.space3.specs.Moved.{halved, moved_by}
+use Rattle.safe_motion.specs.declared.depth.TheConstants.{DEPTH}
 use Rattle.safe_motion.specs.declared.motion.Corners.{Corners}
 use Rattle.safe_motion.specs.declared.motion.Edges.{Edges}
 use Rattle.safe_motion.specs.Certificates.{ArePositive, StaysPositive, VolumeCertificate, edges_at}
@@ -15,11 +15,14 @@ use Rattle.surface_mesh.specs.declared.setup.Setup.{Setup}
 use Rattle.surface_mesh.specs.Edges.{has_edges_within}
 use Rattle.potential_sum.specs.Terms.{FrameTerms}
 use Rattle.potential_sum.specs.Potential.{potential, gradient}
-use Rattle.line_search.specs.Accepted.{IsAllowed, IsAccepted, IsFirstAccepted, HasNoAccepted, depth, most_halvings}
-use Rattle.line_search.specs.Upright.{longest_edge}
+use Rattle.line_search.specs.declared.step.Step.{Step}
+use Rattle.line_search.specs.declared.halvings.TheConstants.{MOST_HALVINGS}
+use Rattle.volume_cert.specs.declared.edges.TheConstants.{LONGEST_EDGE}
+use Rattle.line_search.specs.Accepted.{IsAllowed, IsAccepted, IsFirstAccepted, HasNoAccepted}
+use Rattle.line_search.specs.Upright.{HasShortEdges}
 use Rattle.frame_driver.specs.Directions.{jacobi}
 use Rattle.frame_driver.specs.Frames.{IsAtRest, HasStep, HasNoStep}
-use Rattle.frame_driver.proofs.Decided.{dec_along, dec_not, dec_two, dec_three, dec_four, dec_IsTrue, dec_lt_ℤ, dec_le_ℤ, dec_All, dec_Any, dec_below, least_or_none}
+use Rattle.list_laws.proofs.Decisions.{dec_along, dec_not, dec_two, dec_three, dec_four, dec_IsTrue, dec_lt_ℤ, dec_le_ℤ, dec_All, dec_Any, dec_below, least_or_none}
 
 -- ---- vectors
 dec_AtMost : (b : ℕ) (a : ℤ) → Dec (AtMost b a)
@@ -49,10 +52,10 @@ dec_ArePositive s t =
     (dec_above (determinant t.u t.v t.w)))
     (λ h. record { first = h.0; second = h.1; third = h.2; fourth = h.3 }) (λ h. (h.first, h.second, h.third, h.fourth))
 
-pub dec_VolumeCertificate : (depth : ℕ) (t : Corners) → Dec (VolumeCertificate depth t)
-dec_VolumeCertificate depth t =
-    dec_below (λ j. StaysPositive t j (2 ^ depth))
-    (λ j. dec_ArePositive (edges_at j (2 ^ depth) t) (edges_at (j + 1) (2 ^ depth) t)) (2 ^ depth)
+pub dec_VolumeCertificate : (DEPTH : ℕ) (t : Corners) → Dec (VolumeCertificate DEPTH t)
+dec_VolumeCertificate DEPTH t =
+    dec_below (λ j. StaysPositive t j (2 ^ DEPTH))
+    (λ j. dec_ArePositive (edges_at j (2 ^ DEPTH) t) (edges_at (j + 1) (2 ^ DEPTH) t)) (2 ^ DEPTH)
 
 -- ---- steps
 pub dec_IsAllowed : (setup : Setup) (terms : FrameTerms) (x y : List V3) → Dec (IsAllowed setup terms x y)
@@ -60,8 +63,8 @@ dec_IsAllowed setup terms x y =
     dec_along
     (dec_four
     (dec_All IsInTheBox (dec_Within (2 ^ 20)) y)
-    (dec_All (λ tet. IsTrue (has_edges_within longest_edge y tet.nodes)) (λ tet. dec_IsTrue (has_edges_within longest_edge y tet.nodes)) setup.mesh.tets)
-    (dec_All (λ tet. VolumeCertificate depth (corners x y tet.nodes)) (λ tet. dec_VolumeCertificate depth (corners x y tet.nodes)) setup.mesh.tets)
+    (dec_All (λ tet. HasShortEdges y tet.nodes) (λ tet. dec_IsTrue (has_edges_within LONGEST_EDGE y tet.nodes)) setup.mesh.tets)
+    (dec_All (λ tet. VolumeCertificate DEPTH (corners x y tet.nodes)) (λ tet. dec_VolumeCertificate DEPTH (corners x y tet.nodes)) setup.mesh.tets)
     (dec_lt_ℤ (potential setup terms y) (potential setup terms x)))
     (λ h. record { in_box = h.0; edges = h.1; certified = h.2; lower = h.3 }) (λ h. (h.in_box, h.edges, h.certified, h.lower))
 
@@ -76,17 +79,27 @@ dec_IsAccepted setup terms x direction half =
 -- some halving is the least that is accepted, or none is accepted
 pub first_or_none : (setup : Setup) (terms : FrameTerms) (x direction : List V3) → ((half : ℕ) × IsFirstAccepted setup terms x direction half) ⊎ HasNoAccepted setup terms x direction
 first_or_none setup terms x direction =
-    elim (least_or_none (IsAccepted setup terms x direction) (dec_IsAccepted setup terms x direction) most_halvings) [
+    elim (least_or_none (IsAccepted setup terms x direction) (dec_IsAccepted setup terms x direction) MOST_HALVINGS) [
       | inl found ↦ inl (found.0, record { few = found.1; accepted = found.2.holds; least = found.2.least })
       | inr none ↦ inr none
     ]
+
+-- the step of a halving of a direction
+abbrev step_of : Setup → FrameTerms → (x direction : List V3) → ℕ → Step
+step_of setup terms x direction half = record {
+  half = half;
+  direction = direction;
+  places = moved_by x direction half;
+  lower = potential setup terms (moved_by x direction half);
+  upper = potential setup terms x;
+}
 
 -- there is a step, or there is none
 pub step_or_none : (setup : Setup) (terms : FrameTerms) (x : List V3) → HasStep setup terms x ⊎ HasNoStep setup terms x
 step_or_none setup terms x =
     let direction = jacobi setup terms x in
     elim (first_or_none setup terms x direction) [
-      | inl found ↦ inl (moved_by x direction found.0, record { half = found.0; first = found.1; moved = refl })
+      | inl found ↦ inl (step_of setup terms x direction found.0, record { first = found.1; direction = refl; places = refl; lower = refl; upper = refl })
       | inr none ↦ inr none
     ]
 

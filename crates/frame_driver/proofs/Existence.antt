@@ -1,20 +1,22 @@
 -- There is a path of so many frames from all places.
 use Rattle.std.proofs.Common.{◌≡◌, ℕ, zero, suc, ◌+◌, ◌≤◌, ℤ, List, [], ◌∷◌, length, ◌⊎◌, inl, inr, refl, ap, subst, arith}
+use Rattle.list_laws.specs.Chains.{Follow}
 use Rattle.space3.specs.declared.vectors.V3.{V3}
 use Rattle.surface_mesh.specs.declared.setup.Setup.{Setup}
 use Rattle.potential_sum.specs.Terms.{FrameTerms, terms_of}
+use Rattle.line_search.specs.declared.step.Step.{Step}
 use Rattle.frame_driver.specs.declared.end.FrameEnd.{FrameEnd}
 use Rattle.frame_driver.specs.declared.end.FrameEnd.TheVariants as ends
-use Rattle.frame_driver.specs.Frames.{Frame, IsFrame, IsAtRest, Steps, HasStep, Follow, EndsAt, last_after}
+use Rattle.frame_driver.specs.Frames.{Frame, IsFrame, IsAtRest, GoesOn, HasStep, EndsAt, last_after, places_after}
 use Rattle.frame_driver.specs.Paths.{FramesFrom}
 use Rattle.frame_driver.proofs.DecidedSteps.{dec_IsAtRest, step_or_none}
 
 -- the rest of a frame from the places x after so many steps, with so many left of the budget
 record Rest (setup : Setup) (tol : ℤ) (budget : ℕ) (terms : FrameTerms) (taken left : ℕ) (x : List V3) : Type 0 where
-  steps : List (List V3)
+  steps : List Step
   end : FrameEnd
   few : length steps ≤ left
-  follow : Follow (λ x y. ¬ IsAtRest setup tol terms x × Steps setup terms x y) x steps
+  follow : Follow places_after (GoesOn setup tol terms) x steps
   ends_at : EndsAt setup tol budget terms (taken + length steps) (last_after x steps) end
 
 and_none : (n : ℕ) → n ≡ n + 0
@@ -42,14 +44,14 @@ some_rest setup tol budget terms (suc left) taken x spent =
     elim (rest_or_step setup tol budget terms taken (suc left) x) [
       | inl rest ↦ rest
       | inr goes ↦
-          let y = goes.1.0 in
-          let more = some_rest setup tol budget terms left (suc taken) y (omega arith) in
+          let step = goes.1.0 in
+          let more = some_rest setup tol budget terms left (suc taken) step.places (omega arith) in
           record {
-            steps = y ∷ more.steps;
+            steps = step ∷ more.steps;
             end = more.end;
             few = omega (arith, more.few);
-            follow = ((goes.0, goes.1.1), more.follow);
-            ends_at = subst (λ (n : ℕ). EndsAt setup tol budget terms n (last_after y more.steps) more.end) (one_more taken (length more.steps)) more.ends_at;
+            follow = (record { restless = goes.0; step_at = goes.1.1 }, more.follow);
+            ends_at = subst (λ (n : ℕ). EndsAt setup tol budget terms n (last_after step.places more.steps) more.end) (one_more taken (length more.steps)) more.ends_at;
           }
     ]
   where

@@ -1,13 +1,10 @@
 pub mod Advance
-pub mod Decided
 pub mod DecidedSteps
 pub mod Existence
-pub mod FirstSteps
 pub mod OnePath
-pub mod Pushes
 pub mod Reached
 pub mod SetupDirections
 pub mod SimPaths
 pub mod Starts
-pub mod StepsSoFar
+pub mod Descents
 pub mod UprightPaths

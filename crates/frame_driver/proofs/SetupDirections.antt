@@ -1,5 +1,5 @@
 -- Jacobi's direction from a setup's lists and the gradient is the setup's.
-use Rattle.std.proofs.Common.{◌≡◌, ◌∙◌, ℕ, ◌+◌, ◌*◌, ◌<◌, ℤ, pos, true, false, List, [], ◌∷◌, length, map, get_or, refl, ap, sym, subst, arith, add-zero, zero-add}
+use Rattle.std.proofs.Common.{◌≡◌, ◌∙◌, ℕ, ◌+◌, ◌*◌, ◌<◌, ℤ, pos, Bool, true, false, List, [], ◌∷◌, length, map, get_or, refl, ap, sym, subst, arith, add-zero, zero-add}
 use Rattle.std.specs.Prelude.{All, if◌then◌else◌, slice_index_or}
 use Rattle.std.specs.List.{range_with_len}
 use Rattle.std.proofs.lemmas.List.FromFn.{length-range_with_len, get_or-range_with_len, length-map-range_with_len}
@@ -15,7 +15,7 @@ use Rattle.potential_sum.specs.Terms.{FrameTerms}
 use Rattle.potential_sum.specs.Inertia.{inertia_gradient}
 use Rattle.potential_sum.specs.Potential.{components, gradient, gradient_at, mass_at}
 use Rattle.frame_driver.specs.Directions.{jacobi, jacobi_at, jacobi_component, diagonal_at, vector_of}
-use Rattle.frame_driver.specs.Slopes.{BelongTogether, direction_at, directions_of}
+use Rattle.frame_driver.specs.Calls.Slopes.{BelongTogether, direction_at, directions_of}
 use Rattle.potential_sum.proofs.Gradients.{length-gradient, gradient_stands, gradient_is_small}
 
 -- the lists of a setup and its gradient belong together
@@ -68,6 +68,11 @@ directions-jacobi s terms x built =
     ap (λ m. map f (range_with_len 0 m)) (mass_length s built)
     ∙ map_agree f (jacobi_at s terms x) (range_with_len 0 n) (all_counted (λ i. f i ≡ jacobi_at s terms x i) n (direction-jacobi s terms x))
 
+-- the list that is made of these lists is Jacobi's direction
+pub made_is_jacobi : (s : Setup) (terms : FrameTerms) (x list : List V3) (mass : List ℤ) (fixed : List Bool) (slopes : List ℤ) → IsSetup s
+    → list ≡ directions_of mass fixed slopes → mass ≡ s.mass → fixed ≡ s.fixed → slopes ≡ gradient s terms x → list ≡ jacobi s terms x
+made_is_jacobi s terms x list mass fixed slopes built made masses flags slopes-are = made ∙ (λ t. directions_of (masses t) (flags t) (slopes-are t)) ∙ directions-jacobi s terms x built
+
 -- one vector per node
-pub length-directions_of : (s : Setup) (terms : FrameTerms) (x : List V3) → IsSetup s → length (directions_of s.mass s.fixed (gradient s terms x)) ≡ length s.mesh.numbers
-length-directions_of s terms x built = length-map-range_with_len (direction_at s.mass s.fixed (gradient s terms x)) 0 (length s.mass) ∙ mass_length s built
+pub length-jacobi : (s : Setup) (terms : FrameTerms) (x : List V3) → length (jacobi s terms x) ≡ length s.mesh.numbers
+length-jacobi s terms x = length-map-range_with_len (jacobi_at s terms x) 0 (length s.mesh.numbers)

@@ -19,7 +19,8 @@ use Rattle.surface_mesh.specs.Edges.{edges_of, has_edges_within, is_within}
 use Rattle.surface_mesh.specs.Setup.{IsSetup, rest_of}
 use Rattle.surface_mesh.specs.Sturdy.{IsSturdy, least_rest, longest_rest}
 use Rattle.surface_mesh.proofs.SetupFacts.{velocity_length}
-use Rattle.line_search.specs.Upright.{IsPose, longest_edge}
+use Rattle.volume_cert.specs.declared.edges.TheConstants.{LONGEST_EDGE}
+use Rattle.line_search.specs.Upright.{HasShortEdges, IsPose}
 use Rattle.frame_driver.specs.Paths.{first_before}
 
 -- ---- vectors
@@ -69,8 +70,8 @@ first_pose s built sturdy =
     record {
       each = sym built.mesh_is_sound.placed;
       upright = All-weaker (λ tet. least_rest ≤ℤ rest_of s.mesh tet) Upright (λ tet h. positive (rest_of s.mesh tet) h) s.mesh.tets thick;
-      edges = All-weaker (λ tet. IsTrue (has_edges_within longest_rest s.mesh.places tet.nodes)) (λ tet. IsTrue (has_edges_within longest_edge s.mesh.places tet.nodes))
-          (λ tet h. edges_more longest_rest longest_edge s.mesh.places tet.nodes (lit≤ tt) h) s.mesh.tets sturdy.edges;
+      edges = All-weaker (λ tet. IsTrue (has_edges_within longest_rest s.mesh.places tet.nodes)) (λ tet. HasShortEdges s.mesh.places tet.nodes)
+          (λ tet h. edges_more longest_rest LONGEST_EDGE s.mesh.places tet.nodes (lit≤ tt) h) s.mesh.tets sturdy.edges;
     }
 
 -- ---- the places before

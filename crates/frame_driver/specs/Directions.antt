@@ -1,17 +1,13 @@
 -- Jacobi's direction: each component of the gradient over the matrix's diagonal entry.
-use Rattle.std.specs.Prelude.{ℕ, ℤ, pos, neg_ℤ, ◌+ℤ◌, ◌*ℤ◌, List, [], ◌∷◌, map, false, slice_index_or, if◌then◌else◌}
+use Rattle.std.specs.Prelude.{ℕ, ℤ, pos, neg_ℤ, ◌*ℤ◌, List, [], ◌∷◌, map, false, slice_index_or, if◌then◌else◌}
 use Rattle.std.specs.Int.{int_max}
-use Rattle.num_q.specs.Rounding.{floor_of, cut_of}
+use Rattle.num_q.specs.Rounding.{round_of, cut_of}
 use Rattle.space3.specs.declared.vectors.V3.{V3}
 use Rattle.space3.specs.Vectors.{vector, origin}
 use Rattle.surface_mesh.specs.declared.setup.Setup.{Setup}
 use Rattle.surface_mesh.specs.Setup.{nodes_of}
 use Rattle.potential_sum.specs.Terms.{FrameTerms}
 use Rattle.potential_sum.specs.Potential.{mass_at, gradient_at}
-
--- the nearest whole number to a / b, halves upwards, where b is above 0
-abbrev pub round_of : ℤ → ℤ → ℤ
-round_of a b = floor_of (pos 2 *ℤ a +ℤ b) (pos 2 *ℤ b)
 
 -- the matrix's three diagonal entries of a node: twice its mass, and 1 where it is fixed
 abbrev pub diagonal_at : Setup → ℕ → ℤ

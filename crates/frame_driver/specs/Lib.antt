@@ -1,6 +1,5 @@
-pub mod Descents
+pub mod Calls
 pub mod Directions
 pub mod Frames
 pub mod Paths
 pub mod Sims
-pub mod Slopes

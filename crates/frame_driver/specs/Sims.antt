@@ -5,10 +5,11 @@ use Rattle.space3.specs.Vectors.{Within}
 use Rattle.surface_mesh.specs.declared.setup.Setup.{Setup}
 use Rattle.surface_mesh.specs.Setup.{IsSetup}
 use Rattle.surface_mesh.specs.Sturdy.{IsSturdy}
-use Rattle.line_search.specs.Upright.{IsPose, StaysUpright}
+use Rattle.line_search.specs.declared.step.Step.{Step}
+use Rattle.line_search.specs.Upright.{IsPose}
 use Rattle.frame_driver.specs.declared.end.FrameEnd.{FrameEnd}
-use Rattle.frame_driver.specs.Frames.{IsFrame, Follow, last_after}
-use Rattle.frame_driver.specs.Paths.{first_before}
+use Rattle.frame_driver.specs.Frames.{IsFrame, last_after}
+use Rattle.frame_driver.specs.Paths.{StepsStayUpright, first_before}
 
 -- the bodies, the tolerance and budget of each frame, the places now, and those at the start of the last frame
 pub record SimState : Type 0 where
@@ -33,7 +34,7 @@ pub record IsSim (sim : SimState) : Type 0 where
 
 -- one frame with this end led from the old state to the new one
 pub record Advances (end : FrameEnd) (old new : SimState) : Type 0 where
-  pub steps : List (List V3)
+  pub steps : List Step
   pub frame : IsFrame old.setup old.tol old.budget old.places old.before (record { steps = steps; end = end })
   pub places : new.places ≡ last_after old.places steps
   pub before : new.before ≡ old.places
@@ -41,4 +42,4 @@ pub record Advances (end : FrameEnd) (old new : SimState) : Type 0 where
   pub tol : new.tol ≡ old.tol
   pub budget : new.budget ≡ old.budget
   -- at every fraction of every step each volume is positive
-  pub upright : Follow (StaysUpright old.setup) old.places steps
+  pub upright : StepsStayUpright old.setup old.places steps

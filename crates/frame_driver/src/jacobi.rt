@@ -1,44 +1,47 @@
 //! Jacobi's direction: each component of the gradient over the matrix's diagonal entry.
 ghost use Rattle.std.specs.Prelude.{◌≡◌, ◌<◌, ◌-◌, ◌+◌, ◌*◌, ◌^◌, ◌≤ℤ◌, ◌<ℤ◌, pos, false, length, All, IfOk, unsigned_abs, slice_index_or};
-ghost use Rattle.num_q.specs.Rounding.{cut_of};
 ghost use Rattle.space3.specs.Vectors.{AtMost, Within};
 ghost use Rattle.surface_mesh.specs.Materials.{IsFrom};
 ghost use Rattle.surface_mesh.specs.Sturdy.{most_mass};
 ghost use Rattle.std.specs.Int.{int_max};
-ghost use Rattle.frame_driver.specs.Directions.{round_of, jacobi_component};
-ghost use Rattle.frame_driver.specs.Slopes.{diagonal_of, direction_at, directions_of, BelongTogether};
+ghost use Rattle.frame_driver.specs.Directions.{jacobi_component};
+ghost use Rattle.frame_driver.specs.Calls.Slopes.{diagonal_of, direction_at, directions_of, BelongTogether};
 
 use num_q::Q;
 use space3::V3;
 use std::alloc::{AllocError, Global};
 
-// The nearest whole number to a / b, halves upwards.
-fn nearest(a: Q<0, 91>, b: Q<0, 60>) -> Q<0, 94>
-    requires { pos 0 <ℤ b.raw }
-    ensures { result.raw ≡ round_of a.raw b.raw }
+// The direction, one vector per node.
+pub(crate) fn directions(
+    alloc: Global,
+    mass: &[i128],
+    fixed: &[bool],
+    slopes: &[i128],
+) -> Result<Vec<V3>, AllocError>
+    requires { BelongTogether mass.now fixed.now slopes.now }
+    ensures value { IfOk result (λ made. made.items ≡ directions_of mass.now fixed.now slopes.now) }
+    ensures short { IfOk result (λ made. All (Within (2 ^ 21 - 1)) made.items) }
 {
-    let two: Q<0, 2> = Q::of_raw(2);
-    let double_a: Q<0, 93> = two.mul_into(a);
-    let double_b: Q<0, 62> = two.mul_into(b);
-    let sum: Q<0, 94> = double_a.add_into(b);
-    sum.div_floor_into::<0, 0, 62, 0, 94>(double_b)
+    let mut made = Vec::with_capacity(alloc, mass.len())?;
+    for node in 0..mass.len() {
+        made.push(node_direction(mass, fixed, slopes, node))?;
+    }
+    Ok(made)
 }
 
-// The divisor: the diagonal entry, and at least 1.
-fn divisor(diagonal: Q<0, 60>) -> Q<0, 60>
-    ensures value { result.raw ≡ int_max (pos 1) diagonal.raw }
-    ensures positive { pos 0 <ℤ result.raw }
+// The direction of a node.
+fn node_direction(mass: &[i128], fixed: &[bool], slopes: &[i128], node: usize) -> V3
+    requires there { node < length mass.now }
+    requires lists { BelongTogether mass.now fixed.now slopes.now }
+    ensures value { result ≡ direction_at mass.now fixed.now slopes.now node }
+    ensures short { Within (2 ^ 21 - 1) result }
 {
-    Q::of_raw(diagonal.raw().max(1))
-}
-
-// A component of the direction.
-fn component(diagonal: Q<0, 60>, slope: Q<0, 91>) -> i64
-    ensures value { result ≡ jacobi_component diagonal.raw slope.raw }
-    ensures short { AtMost (2 ^ 21 - 1) result }
-{
-    let cut: Q<0, 21> = nearest(slope.neg(), divisor(diagonal)).cut_into();
-    cut.raw() as i64
+    let entry = diagonal(mass[node], fixed[node]);
+    V3 {
+        x: component(entry, slope_at(slopes, 3 * node)),
+        y: component(entry, slope_at(slopes, 3 * node + 1)),
+        z: component(entry, slope_at(slopes, 3 * node + 2)),
+    }
 }
 
 // The matrix's diagonal entry of a node. A mass is so small that nothing is cut.
@@ -57,35 +60,20 @@ fn slope_at(slopes: &[i128], i: usize) -> Q<0, 91>
     Q::of_raw(slopes[i])
 }
 
-// The direction of a node.
-fn node_direction(mass: &[i128], fixed: &[bool], slopes: &[i128], node: usize) -> V3
-    requires there { node < length mass.now }
-    requires lists { BelongTogether mass.now fixed.now slopes.now }
-    ensures value { result ≡ direction_at mass.now fixed.now slopes.now node }
-    ensures short { Within (2 ^ 21 - 1) result }
+// A component of the direction.
+fn component(diagonal: Q<0, 60>, slope: Q<0, 91>) -> i64
+    ensures value { result ≡ jacobi_component diagonal.raw slope.raw }
+    ensures short { AtMost (2 ^ 21 - 1) result }
 {
-    let entry = diagonal(mass[node], fixed[node]);
-    V3 {
-        x: component(entry, slope_at(slopes, 3 * node)),
-        y: component(entry, slope_at(slopes, 3 * node + 1)),
-        z: component(entry, slope_at(slopes, 3 * node + 2)),
-    }
+    let exact: Q<0, 91> = slope.neg().round_into(divisor(diagonal));
+    let cut: Q<0, 21> = exact.cut_into();
+    cut.raw() as i64
 }
 
-// The direction, one vector per node.
-pub(crate) fn directions(
-    alloc: Global,
-    mass: &[i128],
-    fixed: &[bool],
-    slopes: &[i128],
-) -> Result<Vec<V3>, AllocError>
-    requires { BelongTogether mass.now fixed.now slopes.now }
-    ensures value { IfOk result (λ made. made.items ≡ directions_of mass.now fixed.now slopes.now) }
-    ensures short { IfOk result (λ made. All (Within (2 ^ 21 - 1)) made.items) }
+// The divisor: the diagonal entry, and at least 1.
+fn divisor(diagonal: Q<0, 60>) -> Q<0, 60>
+    ensures value { result.raw ≡ int_max (pos 1) diagonal.raw }
+    ensures positive { pos 0 <ℤ result.raw }
 {
-    let mut made = Vec::with_capacity(alloc, mass.len())?;
-    for node in 0..mass.len() {
-        made.push(node_direction(mass, fixed, slopes, node))?;
-    }
-    Ok(made)
+    Q::of_raw(diagonal.raw().max(1))
 }

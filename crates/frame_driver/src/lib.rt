@@ -11,6 +11,3 @@ mod sim;
 pub use end::FrameEnd;
 pub use laws::{one_path, paths_stay_upright, there_is_a_path};
 pub use sim::Sim;
-
-#[cfg(test)]
-mod tests;

@@ -14,7 +14,7 @@ use Rattle.surface_mesh.specs.declared.materials.Numbers.{Numbers}
 use Rattle.surface_mesh.specs.Setup.{setup_of}
 use Rattle.mesh_check.specs.declared.defects.Defect.{Defect}
 use Rattle.mesh_check.specs.Defects.{first_defect}
-use Rattle.frame_driver.proofs.Decided.{dec_All}
+use Rattle.list_laws.proofs.Decisions.{dec_All}
 use Rattle.frame_driver.proofs.DecidedSteps.{dec_Within}
 use Rattle.ipc_top.specs.Orders.{Means, Outcome, Missing, TooLong, NotFirstForm, Defective, Accepted, IsOutcomeOfText, IsOutcome, mesh_limit}
 use Rattle.ipc_top.specs.Phases.{judged}

@@ -1,2 +1,2 @@
-pub mod Example
+pub mod OneStep
 pub mod Upright

@@ -1,32 +1,24 @@
 -- Which halving of a direction is taken.
-use Rattle.std.specs.Prelude.{◌≡◌, ◌<◌, ◌≤◌, ◌<ℤ◌, ℕ, List, All, Any, IsTrue}
+use Rattle.std.specs.Prelude.{◌≡◌, ◌<◌, ◌≤◌, ◌<ℤ◌, ℕ, List, All, Any}
 use Rattle.space3.specs.declared.vectors.V3.{V3}
 use Rattle.space3.specs.Vectors.{origin}
 use Rattle.space3.specs.Box.{IsInTheBox}
 use Rattle.space3.specs.Moved.{halved, moved_by}
+use Rattle.safe_motion.specs.declared.depth.TheConstants.{DEPTH}
 use Rattle.safe_motion.specs.Certificates.{VolumeCertificate}
 use Rattle.safe_motion.specs.Safety.{corners}
 use Rattle.surface_mesh.specs.declared.setup.Setup.{Setup}
-use Rattle.surface_mesh.specs.Edges.{has_edges_within}
 use Rattle.potential_sum.specs.Terms.{FrameTerms}
 use Rattle.potential_sum.specs.Potential.{potential}
-use Rattle.line_search.specs.declared.step.Step.{Step}
-use Rattle.line_search.specs.Upright.{longest_edge}
-
--- into how many halves, and halves of halves, a step is halved for its certificates
-abbrev pub depth : ℕ
-depth = 8
-
--- the most halvings of a direction
-abbrev pub most_halvings : ℕ
-most_halvings = 20
+use Rattle.line_search.specs.declared.halvings.TheConstants.{MOST_HALVINGS}
+use Rattle.line_search.specs.Upright.{HasShortEdges}
 
 -- A step from the places x to the places y is allowed: it stays in the box, no edge gets too long, each tetrahedron
 -- has its certificate, and the potential gets lower.
 pub record IsAllowed (setup : Setup) (terms : FrameTerms) (x y : List V3) : Type 0 where
   pub in_box : All IsInTheBox y
-  pub edges : All (λ tet. IsTrue (has_edges_within longest_edge y tet.nodes)) setup.mesh.tets
-  pub certified : All (λ tet. VolumeCertificate depth (corners x y tet.nodes)) setup.mesh.tets
+  pub edges : All (λ tet. HasShortEdges y tet.nodes) setup.mesh.tets
+  pub certified : All (λ tet. VolumeCertificate DEPTH (corners x y tet.nodes)) setup.mesh.tets
   pub lower : potential setup terms y <ℤ potential setup terms x
 
 -- a halving of a direction at the places x is accepted: it moves some node, and the step is allowed
@@ -36,18 +28,11 @@ pub record IsAccepted (setup : Setup) (terms : FrameTerms) (x direction : List V
 
 -- the least accepted halving
 pub record IsFirstAccepted (setup : Setup) (terms : FrameTerms) (x direction : List V3) (half : ℕ) : Type 0 where
-  pub few : half ≤ most_halvings
+  pub few : half ≤ MOST_HALVINGS
   pub accepted : IsAccepted setup terms x direction half
   pub least : (earlier : ℕ) → earlier < half → ¬ IsAccepted setup terms x direction earlier
 
 -- no halving is accepted
 abbrev pub HasNoAccepted : Setup → FrameTerms → (x direction : List V3) → Type 0
 HasNoAccepted setup terms x direction =
-    (half : ℕ) → half ≤ most_halvings → ¬ IsAccepted setup terms x direction half
-
--- the step of the least accepted halving, with both potentials
-pub record IsFirstStep (setup : Setup) (terms : FrameTerms) (x direction : List V3) (step : Step) : Type 0 where
-  pub first : IsFirstAccepted setup terms x direction step.half
-  pub places : step.places ≡ moved_by x direction step.half
-  pub lower : step.lower ≡ potential setup terms step.places
-  pub upper : step.upper ≡ potential setup terms x
+    (half : ℕ) → half ≤ MOST_HALVINGS → ¬ IsAccepted setup terms x direction half

@@ -1,4 +1,4 @@
 pub mod Accepted
-pub mod Corners
-pub mod Tried
+pub mod Calls
+pub mod Steps
 pub mod Upright

@@ -2,8 +2,8 @@
 #![tactic(auto)]
 
 mod allowed;
+mod halvings;
 mod step;
-#[cfg(test)]
-mod tests;
 
+pub use halvings::MOST_HALVINGS;
 pub use step::{Step, first_step};

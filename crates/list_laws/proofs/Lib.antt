@@ -1,4 +1,9 @@
+pub mod Chains
+pub mod Decisions
 pub mod Elements
 pub mod Membership
 pub mod PairsOfElements
+pub mod Pushes
+pub mod Searches
 pub mod StrictlySorted
+pub mod Sums

@@ -9,7 +9,7 @@ mod setup;
 mod shares;
 
 pub use edges::has_edges_within;
-pub use lists::{FixedList, MassList, RestList, VelocityList};
+pub use lists::{DirList, FixedList, MassList, RestList, VelocityList};
 pub use materials::{Material, Numbers, PartList};
 pub use setup::Setup;
 

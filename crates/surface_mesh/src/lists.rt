@@ -1,4 +1,4 @@
-//! The lists of a setup, each seen as the list that it holds.
+//! Lists of tetrahedra and nodes, each seen as the list that it holds.
 ghost use Rattle.std.specs.Prelude.{◌≡◌};
 
 use space3::V3;
@@ -118,6 +118,37 @@ impl VelocityList {
     }
 
     /// The velocities, in order.
+    pub fn items(&self) -> &[V3]
+        ensures { result.now ≡ self.now }
+    {
+        self.list.as_slice()
+    }
+}
+
+/// The direction of a step, before it is halved: one vector per node, in grid units.
+#[derive(Drop)]
+pub struct DirList {
+    list: Vec<V3>,
+}
+
+impl Model for DirList {
+    ghost use Rattle.std.specs.Prelude.{List};
+    ghost use Rattle.space3.specs.declared.vectors.V3.{V3};
+
+    ghost Value = { List V3 };
+
+    ghost view = { λ l. l.list.items };
+}
+
+impl DirList {
+    /// The list of these vectors.
+    pub fn of_vec(items: Vec<V3>) -> Self
+        ensures { result ≡ items.items }
+    {
+        DirList { list: items }
+    }
+
+    /// The vectors, in order.
     pub fn items(&self) -> &[V3]
         ensures { result.now ≡ self.now }
     {

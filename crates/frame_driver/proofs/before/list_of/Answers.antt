@@ -1,7 +1,7 @@
 use Rattle.std.proofs.Common.{◌<◌, length, arith, sym}
 use Rattle.std.proofs.lemmas.Option.{get_or_from_slice_get}
 use Rattle.space3.specs.Vectors.{Within, origin}
-use Rattle.frame_driver.proofs.Pushes.{taken_more, all_more}
+use Rattle.list_laws.proofs.Pushes.{taken_more, all_more}
 use Rattle.frame_driver.proofs.Starts.{place_is_near}
 use Rattle.frame_driver.proofs.before.list_of.Goals as goal
 

@@ -3,7 +3,7 @@ use Rattle.std.proofs.lemmas.Option.{get_or_from_slice_get}
 use Rattle.std.proofs.lemmas.List.Elements.{All-get_or}
 use Rattle.space3.specs.declared.vectors.V3.{V3}
 use Rattle.space3.specs.Vectors.{Within, difference, origin}
-use Rattle.frame_driver.proofs.Pushes.{zipped_more, all_more}
+use Rattle.list_laws.proofs.Pushes.{zipped_more, all_more}
 use Rattle.frame_driver.proofs.Starts.{place_before_is_near}
 use Rattle.frame_driver.proofs.before.places_before.Goals as goal
 

@@ -1,23 +1,29 @@
-use Rattle.std.proofs.Common.{w64, arith, le_refl}
+use Rattle.std.proofs.Common.{◌≡◌, ◌∙◌, w64, arith, le_refl, rules, to_z, of_z}
+use Rattle.std.specs.Int.{w128}
 use Rattle.std.proofs.lemmas.Int.{to_z-of_z}
-use Rattle.frame_driver.proofs.StepsSoFar.{one_more, at_budget, stalls, spends, descends_at}
+use Rattle.frame_driver.proofs.Descents.{one_more, at_budget, stalls, spends, descends_at}
 use Rattle.frame_driver.proofs.frame.descend.Goals as goal
 
 pub loop-taken-preserved : goal.loop-taken-preserved
 loop-taken-preserved c =
-    one_more _ _ _ _ _ c.in-Step.places _ c.loop-taken.invariant (rw c.in-Step.is at c.in_ok-turn_at.ensures)
+    let next = rw c.in-Step.is at c.in_ok-next_at.ensures in
+    let kept : to_z w128 (of_z w128 c.in-Step.step.lower) ≡ c.in-Step.step.lower = search rules in
+    record {
+      come = one_more _ _ _ _ _ c.in-Step.step _ c.loop-taken.invariant.come next;
+      upper = kept ∙ next.goes_on.step_at.lower;
+    }
 
 pub returns-in-Stalled : goal.returns-in-Stalled
 returns-in-Stalled c =
     descends_at _ _ _ _ _ _ _ _ (to_z-of_z w64 c.args.tol c.ranges.tol)
-    (stalls _ _ c.args.budget _ _ _ _ c.loop-taken.invariant (omega (arith, c.loop-taken-test.true)) (rw c.in-Stalled.is at c.in_ok-turn_at.ensures))
+    (stalls _ _ c.args.budget _ _ _ _ c.loop-taken.invariant.come (omega (arith, c.loop-taken-test.true)) (rw c.in-Stalled.is at c.in_ok-next_at.ensures))
 
 pub returns-in-Stalled-2 : goal.returns-in-Stalled-2
 returns-in-Stalled-2 c =
     descends_at _ _ _ _ _ _ _ _ (to_z-of_z w64 c.args.tol c.ranges.tol)
-    (stalls _ _ c.args.budget _ _ _ c.args.budget (at_budget _ _ _ _ _ c.loop-taken.taken _ c.loop-taken.auto.taken-end c.loop-taken-test.false c.loop-taken.invariant) (le_refl c.args.budget) (rw c.in-Stalled-2.is at c.in_ok-turn_at-2.ensures))
+    (stalls _ _ c.args.budget _ _ _ c.args.budget (at_budget _ _ _ _ _ c.loop-taken.taken _ c.loop-taken.auto.taken-end c.loop-taken-test.false c.loop-taken.invariant.come) (le_refl c.args.budget) (rw c.in-Stalled-2.is at c.in_ok-next_at-2.ensures))
 
 pub returns : goal.returns
 returns c =
     descends_at _ _ _ _ _ _ _ _ (to_z-of_z w64 c.args.tol c.ranges.tol)
-    (spends _ _ c.args.budget _ _ _ c.in-Step-2.field-0 (at_budget _ _ _ _ _ c.loop-taken.taken _ c.loop-taken.auto.taken-end c.loop-taken-test.false c.loop-taken.invariant) (rw c.in-Step-2.is at c.in_ok-turn_at-2.ensures))
+    (spends _ _ c.args.budget _ _ _ c.in-Step-2.field-0 (at_budget _ _ _ _ _ c.loop-taken.taken _ c.loop-taken.auto.taken-end c.loop-taken-test.false c.loop-taken.invariant.come) (rw c.in-Step-2.is at c.in_ok-next_at-2.ensures))

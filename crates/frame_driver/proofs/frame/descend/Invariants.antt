@@ -1,5 +1,10 @@
-use Rattle.frame_driver.specs.Descents.{SoFar}
+use Rattle.std.proofs.Common.{◌≡◌}
+use Rattle.potential_sum.specs.Potential.{potential}
+use Rattle.frame_driver.specs.Calls.Descents.{HasCome}
 use Rattle.frame_driver.proofs.frame.descend.Given as goal
 
 abbrev pub invariant-loop-taken : goal.invariant-loop-taken
-invariant-loop-taken l = SoFar l.setup l.tol l.terms l.now l.x l.taken
+invariant-loop-taken l = record {
+  come : HasCome l.setup l.tol l.terms l.now l.x l.taken;
+  upper : l.upper ≡ potential l.setup l.terms l.x;
+}

@@ -1,7 +1,7 @@
 use Rattle.std.proofs.Common.{◌-◌, ◌^◌}
 use Rattle.space3.specs.Vectors.{Within}
-use Rattle.frame_driver.specs.Slopes.{direction_at}
-use Rattle.frame_driver.proofs.Pushes.{counted_more, all_more}
+use Rattle.frame_driver.specs.Calls.Slopes.{direction_at}
+use Rattle.list_laws.proofs.Pushes.{counted_more, all_more}
 use Rattle.frame_driver.proofs.jacobi.directions.Goals as goal
 
 pub loop-node-preserved : goal.loop-node-preserved

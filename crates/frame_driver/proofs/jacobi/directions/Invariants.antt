@@ -2,7 +2,7 @@ use Rattle.std.proofs.Common.{◌≡◌, ◌-◌, ◌^◌, map}
 use Rattle.std.specs.Prelude.{All}
 use Rattle.std.specs.List.{range_with_len}
 use Rattle.space3.specs.Vectors.{Within}
-use Rattle.frame_driver.specs.Slopes.{direction_at}
+use Rattle.frame_driver.specs.Calls.Slopes.{direction_at}
 use Rattle.frame_driver.proofs.jacobi.directions.Given as goal
 
 abbrev pub invariant-loop-node : goal.invariant-loop-node

@@ -2,7 +2,7 @@ use Rattle.std.proofs.Common.{◌≡◌, ◌∙◌, false, true, refl, sym, subs
 use Rattle.std.proofs.lemmas.List.{take_all}
 use Rattle.std.proofs.lemmas.List.Elements.{All-more, All-same}
 use Rattle.space3.specs.declared.lists.Tet.{Tet}
-use Rattle.line_search.specs.Corners.{HasCertificate}
+use Rattle.line_search.specs.Calls.Corners.{HasCertificate}
 use Rattle.line_search.proofs.allowed.are_certified.Goals as goal
 
 differ : false ≡ true → ⊥

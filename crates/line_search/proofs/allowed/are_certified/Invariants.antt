@@ -1,6 +1,6 @@
 use Rattle.std.proofs.Common.{take}
 use Rattle.std.specs.Prelude.{All}
-use Rattle.line_search.specs.Corners.{HasCertificate}
+use Rattle.line_search.specs.Calls.Corners.{HasCertificate}
 use Rattle.line_search.proofs.allowed.are_certified.Given as goal
 
 abbrev pub invariant-loop-tet : goal.invariant-loop-tet

@@ -1,15 +1,14 @@
 use Rattle.std.proofs.Common.{◌≡◌, ◌<ℤ◌, ℤ, false, refl, List, subst, arith, to_z, of_z, FitsSigned}
-use Rattle.std.specs.Prelude.{All, IsTrue, int_le}
+use Rattle.std.specs.Prelude.{All, int_le}
 use Rattle.std.specs.Int.{w128}
 use Rattle.std.proofs.lemmas.Int.{ints, to_z-of_z}
 use Rattle.std.proofs.lemmas.List.Elements.{All-weaker}
 use Rattle.space3.specs.declared.lists.Tet.{Tet}
+use Rattle.safe_motion.specs.declared.depth.TheConstants.{DEPTH}
 use Rattle.safe_motion.specs.Certificates.{VolumeCertificate}
 use Rattle.safe_motion.specs.Safety.{corners}
-use Rattle.surface_mesh.specs.Edges.{has_edges_within}
-use Rattle.line_search.specs.Accepted.{depth}
-use Rattle.line_search.specs.Corners.{HasCertificate}
-use Rattle.line_search.specs.Upright.{longest_edge}
+use Rattle.line_search.specs.Calls.Corners.{HasCertificate}
+use Rattle.line_search.specs.Upright.{HasShortEdges}
 use Rattle.line_search.proofs.allowed.lower_if_allowed.Goals as goal
 
 -- a test of two potentials that go to their bits and back
@@ -25,8 +24,8 @@ returns-clause-allowed c =
     let certified : All (HasCertificate c.args.x.now c.args.y.now) tets = subst (All (HasCertificate c.args.x.now c.args.y.now)) c.items-tets.ensures (c.are_certified.ensures.0 c.if-not-are_certified.false) in (
       λ t. record {
         in_box = c.requires.in_box;
-        edges = subst (All (λ (tet : Tet). IsTrue (has_edges_within longest_edge c.args.y.now tet.nodes))) c.items-tets.ensures (c.are_short.ensures.0 c.if-not-are_short.false);
-        certified = All-weaker (HasCertificate c.args.x.now c.args.y.now) (λ (tet : Tet). VolumeCertificate depth (corners c.args.x.now c.args.y.now tet.nodes)) (λ tet h. h.certificate) tets certified;
+        edges = subst (All (λ (tet : Tet). HasShortEdges c.args.y.now tet.nodes)) c.items-tets.ensures (c.are_short.ensures.0 c.if-not-are_short.false);
+        certified = All-weaker (HasCertificate c.args.x.now c.args.y.now) (λ (tet : Tet). VolumeCertificate DEPTH (corners c.args.x.now c.args.y.now tet.nodes)) (λ tet h. h.certificate) tets certified;
         lower = below c.args.upper c.energy-lower.result _ _ c.ranges.upper (record { sfits = c.energy-lower.type_inv }) c.requires.upper c.energy-lower.ensures c.if-upper-lower.false;
       },
       λ a. refl,

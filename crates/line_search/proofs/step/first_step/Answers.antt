@@ -1,42 +1,19 @@
-use Rattle.std.proofs.Common.{◌≡◌, ◌∙◌, false, true, arith, refl, ap, sym, subst, length}
-use borrow.Author.Count.{below_more}
+use Rattle.std.proofs.Common.{◌∙◌, List, ap, length}
 use Rattle.space3.proofs.Moves.{length-moved_by}
-use Rattle.space3.specs.Moved.{moved_by}
-use Rattle.line_search.specs.Accepted.{IsAccepted, IsAllowed}
-use Rattle.line_search.proofs.Upright.{allowed_stays_upright, allowed_is_pose}
+use Rattle.space3.specs.declared.vectors.V3.{V3}
+use Rattle.line_search.proofs.Upright.{allowed_stays_upright, allowed_is_pose, first_halving_is_allowed}
 use Rattle.line_search.proofs.step.first_step.Goals as goal
-
-differ : false ≡ true → ⊥
-differ e = cc
-
-pub loop-half-preserved : goal.loop-half-preserved
-loop-half-preserved c =
-    let tried = rw c.in_default.is at c.in_ok-step.ensures in
-    below_more (λ earlier. ¬ IsAccepted c.args.setup.now c.args.terms.now c.args.x.now c.args.dir.now earlier) c.loop-half.half c.loop-half.invariant (λ a. differ (tried.accepted.1 a))
-
-pub returns-in-Some-clause-first : goal.returns-in-Some-clause-first
-returns-in-Some-clause-first c =
-    let tried = rw c.in-Some.is at c.in_ok-step.ensures in
-    record {
-      first = record {
-        few = omega (arith, tried.step.half, c.loop-half-test.true);
-        accepted = subst (IsAccepted c.args.setup.now c.args.terms.now c.args.x.now c.args.dir.now) (sym tried.step.half) (tried.accepted.0 refl);
-        least = λ earlier before. c.loop-half.invariant earlier (omega (arith, tried.step.half, before));
-      };
-      places = tried.step.places ∙ ap (moved_by c.args.x.now c.args.dir.now) (sym tried.step.half);
-      lower = tried.step.lower;
-      upper = tried.step.upper;
-    }
 
 pub returns-in-Some-clause-upright : goal.returns-in-Some-clause-upright
 returns-in-Some-clause-upright c =
-    let tried = rw c.in-Some.is at c.in_ok-step.ensures in
-    allowed_stays_upright c.args.setup.now c.args.terms.now c.args.x.now c.in-Some.step.places
-    (subst (IsAllowed c.args.setup.now c.args.terms.now c.args.x.now) (sym tried.step.places) (tried.accepted.0 refl).allowed)
+    let found = rw c.in-Some.is at c.in_ok-first_halving.ensures in
+    allowed_stays_upright c.args.setup.now c.args.terms.now c.args.x.now c.in-Some.halving.places
+    (first_halving_is_allowed c.args.setup.now c.args.terms.now c.args.x.now c.items.result.now c.in-Some.halving found.first)
 
 pub returns-in-Some-clause-pose : goal.returns-in-Some-clause-pose
 returns-in-Some-clause-pose c =
-    let tried = rw c.in-Some.is at c.in_ok-step.ensures in
-    allowed_is_pose c.args.setup.now c.args.terms.now c.args.x.now c.in-Some.step.places
-    (ap length tried.step.places ∙ length-moved_by c.args.x.now c.args.dir.now c.loop-half.half c.requires.each ∙ c.requires.pose.each)
-    (subst (IsAllowed c.args.setup.now c.args.terms.now c.args.x.now) (sym tried.step.places) (tried.accepted.0 refl).allowed)
+    let found = rw c.in-Some.is at c.in_ok-first_halving.ensures in
+    let as_many = ap (λ (d : List V3). length d) c.items.ensures ∙ c.requires.direction.each in
+    allowed_is_pose c.args.setup.now c.args.terms.now c.args.x.now c.in-Some.halving.places
+    (ap length found.first.places ∙ length-moved_by c.args.x.now c.items.result.now c.in-Some.halving.half as_many ∙ c.requires.ready.pose.each)
+    (first_halving_is_allowed c.args.setup.now c.args.terms.now c.args.x.now c.items.result.now c.in-Some.halving found.first)

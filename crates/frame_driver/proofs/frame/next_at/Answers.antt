@@ -1,7 +1,7 @@
 use Rattle.std.proofs.Common.{◌≡◌, ◌∙◌, ℤ, pos, ◌≤ℤ◌, unsigned_abs, Bool, true, false, List, subst, w64}
 use Rattle.std.specs.Prelude.{All, IsTrue, ◌↔◌}
 use Rattle.std.proofs.lemmas.Int.{to_z-of_z}
-use Rattle.frame_driver.proofs.frame.turn_at.Goals as goal
+use Rattle.frame_driver.proofs.frame.next_at.Goals as goal
 
 -- no number is above the tolerance
 abbrev AllFlat : List ℤ → ℤ → Type 0
@@ -20,8 +20,10 @@ returns-then-is_at_rest c =
 
 pub returns-in-Some : goal.returns-in-Some
 returns-in-Some c = record {
-  restless = λ rest. differ c.is_at_rest.result c.if-is_at_rest.false
-      ((tells _ _ _ c.args.tol _ (c.deref.ensures.value ∙ c.in_ok-gradient.ensures.gradient) (to_z-of_z w64 c.args.tol c.ranges.tol) c.is_at_rest.ensures).1 rest);
-  step = rw c.in-Some.is at c.in_ok-step_from.ensures.step;
+  goes_on = record {
+    restless = λ rest. differ c.is_at_rest.result c.if-is_at_rest.false
+        ((tells _ _ _ c.args.tol _ (c.deref.ensures.value ∙ c.in_ok-gradient.ensures.gradient) (to_z-of_z w64 c.args.tol c.ranges.tol) c.is_at_rest.ensures).1 rest);
+    step_at = rw c.in-Some.is at c.in_ok-step_from.ensures.step;
+  };
   pose = rw c.in-Some.is at c.in_ok-step_from.ensures.pose;
 }

@@ -1,8 +1,8 @@
--- Lists that a loop makes, one element at a turn.
+-- Lists that a loop makes, by one element or list at a turn.
 use Rattle.std.proofs.Common.{◌≡◌, ◌∙◌, ℕ, zero, suc, ◌+◌, ◌<◌, List, [], ◌∷◌, ◌++◌, length, map, take, get_or, refl, ap, sym, subst, arith, add-one}
 use Rattle.std.specs.Prelude.{All}
-use Rattle.std.specs.List.{range_with_len, zip}
-use Rattle.std.proofs.lemmas.List.{take_more}
+use Rattle.std.specs.List.{flat_map, range_with_len, zip}
+use Rattle.std.proofs.lemmas.List.{flat_map_more, take_more}
 use Rattle.std.proofs.lemmas.List.FromFn.{map-range_with_len_more}
 use Rattle.std.proofs.lemmas.List.Elements.{All-push}
 
@@ -33,3 +33,15 @@ zipped_more f xs ys i d e z before after h k so_far next pushed = rw (add-one i)
 -- one more element of which the fact holds
 pub all_more : {X : Type 0} (P : X → Type 0) (x : X) (before after : List X) → All P before → P x → after ≡ before ++ x ∷ [] → All P after
 all_more P x before after so_far next pushed = subst (All P) (sym pushed) (All-push P before x so_far next)
+
+-- the numbers from a on, and one more
+pub range_more : (a n j : ℕ) → a + n ≡ j → range_with_len a (n + 1) ≡ range_with_len a n ++ j ∷ []
+range_more a n j e = let on : n + 1 ≡ suc n = omega arith in ap (range_with_len a) on ∙ last a n j e
+  where
+    last : (a n j : ℕ) → a + n ≡ j → range_with_len a (suc n) ≡ range_with_len a n ++ j ∷ []
+    last a zero j e = let same : a ≡ j = omega arith in ap (λ k. k ∷ []) same
+    last a (suc n) j e = ap (λ l. a ∷ l) (last (a + 1) n j (omega arith))
+
+-- the lists of the counted numbers one after another, and the list of one more
+pub flat_map_counted_more : {A : Type 0} (f : ℕ → List A) (i : ℕ) → flat_map f (range_with_len 0 (i + 1)) ≡ flat_map f (range_with_len 0 i) ++ f i
+flat_map_counted_more f i = ap (flat_map f) (range_more 0 i i (omega arith)) ∙ sym (flat_map_more f [] (range_with_len 0 i) i)

@@ -1,4 +1,5 @@
--- What can be decided: orders of numbers, facts of each or some element of a list, facts of all numbers below another.
+-- Facts that are decided: orders of whole numbers, facts of each or some element of a list, facts of all numbers below
+-- another, and the least number of which a fact holds.
 use Rattle.std.proofs.Common.{◌≡◌, ℕ, zero, suc, ◌<◌, ◌≤◌, ℤ, ◌≤ℤ◌, ◌<ℤ◌, Bool, true, false, List, ◌⊎◌, inl, inr, refl, sym, subst, arith}
 use Rattle.std.specs.Prelude.{All, Any, IsTrue}
 use Rattle.std.proofs.lemmas.Int.{ints, by_lt_z}

@@ -1,12 +1,12 @@
 use Rattle.std.proofs.Common.{◌∙◌, refl, ap, length, subst}
 use Rattle.space3.proofs.Moves.{length-moved_by}
 use Rattle.line_search.specs.Accepted.{IsAllowed}
-use Rattle.line_search.proofs.step.tried.Goals as goal
+use Rattle.line_search.proofs.halvings.accepted_halving.Goals as goal
 
 pub lower_if_allowed-requires-clause-each : goal.lower_if_allowed-requires-clause-each
 lower_if_allowed-requires-clause-each c =
     let moved = rw c.in-Some.is at c.in_ok-y.ensures in
-    ap length moved.places ∙ length-moved_by c.args.x.now c.args.dir.now c.args.half c.requires.each ∙ c.requires.pose.each
+    ap length moved.places ∙ length-moved_by c.args.x.now c.args.direction.now c.args.half c.requires.direction.each ∙ c.requires.ready.pose.each
 
 pub returns-clause-accepted : goal.returns-clause-accepted
 returns-clause-accepted c = (

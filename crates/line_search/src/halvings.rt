@@ -1,0 +1,98 @@
+//! The halvings of a direction.
+ghost use Rattle.std.specs.Prelude.{◌≡◌, ◌≤◌, ◌↔◌, IfOk, IfSome, IsSome, IfNone, IsTrue, Any};
+ghost use Rattle.potential_sum.specs.Potential.{potential};
+ghost use Rattle.line_search.specs.Accepted.{HasNoAccepted, IsAccepted};
+ghost use Rattle.line_search.specs.Calls.Halvings.{IsFirstHalving, IsHalving, Moves};
+ghost use Rattle.line_search.specs.Steps.{AreReady, IsDirection};
+
+use crate::allowed::lower_if_allowed;
+use potential_sum::Terms;
+use space3::{Places, V3, halved};
+use std::alloc::{AllocError, Global};
+use surface_mesh::Setup;
+
+/// The most halvings of a direction. A component is below 2^21, so one more would move no node.
+pub const MOST_HALVINGS: u8 = 20;
+
+const ORIGIN: V3 = V3 { x: 0, y: 0, z: 0 };
+
+// Where a halving of a direction leads.
+#[derive(Drop)]
+pub(crate) struct Halving {
+    pub half: u8,
+    pub places: Places,
+    // The potential at the places.
+    pub lower: i128,
+}
+
+// The least accepted halving of a direction, or None exactly where none is accepted. The potential at x is `upper`.
+pub(crate) fn first_halving(
+    alloc: Global,
+    setup: &Setup,
+    terms: &Terms,
+    x: &Places,
+    direction: &[V3],
+    upper: i128,
+) -> Result<Option<Halving>, AllocError>
+    requires ready { AreReady setup.now terms.now x.now }
+    requires direction { IsDirection x.now direction.now }
+    requires upper { upper ≡ potential setup.now terms.now x.now }
+    ensures first { IfOk result (λ found. IfSome found (IsFirstHalving setup.now terms.now x.now direction.now)) }
+    ensures exhausted { IfOk result (λ found. IfNone found (HasNoAccepted setup.now terms.now x.now direction.now)) }
+{
+    for half in 0..MOST_HALVINGS + 1 {
+        if let Some(halving) = accepted_halving(alloc, setup, terms, x, direction, half, upper)? {
+            return Ok(Some(halving));
+        }
+    }
+    Ok(None)
+}
+
+// A halving, or None exactly where it isn't accepted. The potential at x is `upper`.
+fn accepted_halving(
+    alloc: Global,
+    setup: &Setup,
+    terms: &Terms,
+    x: &Places,
+    direction: &[V3],
+    half: u8,
+    upper: i128,
+) -> Result<Option<Halving>, AllocError>
+    requires ready { AreReady setup.now terms.now x.now }
+    requires direction { IsDirection x.now direction.now }
+    requires few { half ≤ MOST_HALVINGS }
+    requires upper { upper ≡ potential setup.now terms.now x.now }
+    ensures accepted { IfOk result (λ found. IsSome found ↔ IsAccepted setup.now terms.now x.now direction.now half) }
+    ensures halving { IfOk result (λ found. IfSome found (IsHalving setup.now terms.now x.now direction.now half)) }
+{
+    if !moves(direction, half) {
+        return Ok(None);
+    }
+    let Some(y) = x.moved(alloc, direction, half)? else {
+        return Ok(None);
+    };
+    let Some(lower) = lower_if_allowed(setup, terms, x, &y, upper) else {
+        return Ok(None);
+    };
+    Ok(Some(Halving {
+        half,
+        places: y,
+        lower,
+    }))
+}
+
+// Whether the halved direction moves some node.
+fn moves(direction: &[V3], half: u8) -> bool
+    requires { half ≤ MOST_HALVINGS }
+    ensures { IsTrue result ↔ Any (Moves half) direction.now }
+{
+    direction.iter().any(|d| is_moved(*d, half))
+}
+
+// Whether the halved direction moves a node.
+fn is_moved(d: V3, half: u8) -> bool
+    requires { half ≤ MOST_HALVINGS }
+    ensures { IsTrue result ↔ Moves half d }
+{
+    halved(d, half) != ORIGIN
+}
