@@ -52,10 +52,10 @@ dec_ArePositive s t =
     (dec_above (determinant t.u t.v t.w)))
     (λ h. record { first = h.0; second = h.1; third = h.2; fourth = h.3 }) (λ h. (h.first, h.second, h.third, h.fourth))
 
-pub dec_VolumeCertificate : (DEPTH : ℕ) (t : Corners) → Dec (VolumeCertificate DEPTH t)
-dec_VolumeCertificate DEPTH t =
-    dec_below (λ j. StaysPositive t j (2 ^ DEPTH))
-    (λ j. dec_ArePositive (edges_at j (2 ^ DEPTH) t) (edges_at (j + 1) (2 ^ DEPTH) t)) (2 ^ DEPTH)
+pub dec_VolumeCertificate : (depth : ℕ) (t : Corners) → Dec (VolumeCertificate depth t)
+dec_VolumeCertificate depth t =
+    dec_below (λ j. StaysPositive t j (2 ^ depth))
+    (λ j. dec_ArePositive (edges_at j (2 ^ depth) t) (edges_at (j + 1) (2 ^ depth) t)) (2 ^ depth)
 
 -- ---- steps
 pub dec_IsAllowed : (setup : Setup) (terms : FrameTerms) (x y : List V3) → Dec (IsAllowed setup terms x y)
