@@ -10,6 +10,8 @@ mod shelves;
 #[cfg(test)]
 mod lines;
 #[cfg(test)]
+mod logarithms;
+#[cfg(test)]
 mod meshes;
 #[cfg(test)]
 mod scenes;
