@@ -11,7 +11,7 @@ use Rattle.dec_text.specs.declared.DecErr.{DecErr}
 use Rattle.dec_text.specs.declared.DecErr.TheVariants.{NotDecimal, OffGrid, OutOfBox}
 use Rattle.dec_text.specs.Calls.Reader.{decimal_of}
 use Rattle.dec_text.specs.Decimal.{Decimal, IsDecimal, with_sign, numerator, denominator}
-use Rattle.dec_text.specs.Grid.{place_in_box, snapped_place, place_of, IsSnapped, IsSizeOf, IsAnswer, grid_value}
+use Rattle.dec_text.specs.Grid.{place_in_box, snapped_place, place_on_grid, IsSnapped, IsSizeOf, IsAnswer, grid_value}
 use Rattle.dec_text.proofs.ReaderGrammar.{decimal_is_read, read_is_decimal}
 use Rattle.dec_text.proofs.ReaderValues.{grid_value-is, denominator_pos}
 
@@ -49,7 +49,7 @@ module _ (text : List ℕ) (digits : ℕ) (snap : Snap) where
   value = grid_value text digits snap
 
   abbrev place : Decimal → Result ℤ DecErr
-  place d = place_of (Some d) digits snap
+  place d = place_on_grid (Some d) digits snap
 
   at_size : (d : Decimal) (m : ℕ) → IsSizeOf d digits snap m → place d ≡ place_in_box d.negative m
   at_size d m h = snapped_at snap d.negative (numerator d digits) (denominator d) m (denominator_pos d) h
@@ -64,7 +64,7 @@ module _ (text : List ℕ) (digits : ℕ) (snap : Snap) where
     ]
   ]
 
-  read_is_answer : (o : Option Decimal) → decimal_of text ≡ o → IsAnswer text digits snap (place_of o digits snap)
+  read_is_answer : (o : Option Decimal) → decimal_of text ≡ o → IsAnswer text digits snap (place_on_grid o digits snap)
   read_is_answer None e = λ d is. apart (sym e ∙ decimal_is_read text d is)
     where
       apart : {d : Decimal} → None ≡ Some d → ⊥
@@ -76,9 +76,9 @@ module _ (text : List ℕ) (digits : ℕ) (snap : Snap) where
   value_is_answer = subst (IsAnswer text digits snap) (sym (grid_value-is text digits snap)) (read_is_answer (decimal_of text) refl)
 
   value_of : (d : Decimal) → IsDecimal text d → value ≡ place d
-  value_of d is = grid_value-is text digits snap ∙ ap (λ o. place_of o digits snap) (decimal_is_read text d is)
+  value_of d is = grid_value-is text digits snap ∙ ap (λ o. place_on_grid o digits snap) (decimal_is_read text d is)
 
-  refused : (o : Option Decimal) → decimal_of text ≡ o → ((d : Decimal) → ¬ IsDecimal text d) → place_of o digits snap ≡ Err NotDecimal
+  refused : (o : Option Decimal) → decimal_of text ≡ o → ((d : Decimal) → ¬ IsDecimal text d) → place_on_grid o digits snap ≡ Err NotDecimal
   refused None e none = refl
   refused (Some d) e none = absurd (none d (read_is_decimal text d e))
 

@@ -18,14 +18,14 @@ saturated_step s x p d v e = omega arith
 pub saturated_more : (n p : ℕ) → min (min (n * p) (2 ^ 64 - 1) * 10) (2 ^ 64 - 1) ≡ min (n * (p * 10)) (2 ^ 64 - 1)
 saturated_more n p = omega arith
 
-at_least : (s p m : ℕ) → 0 < p → m ≤ s → m ≤ s * p
-at_least s p m h k = omega (arith, mul-le-mul k h)
+times_at_least : (s p m : ℕ) → 0 < p → m ≤ s → m ≤ s * p
+times_at_least s p m h k = omega (arith, mul-le-mul k h)
 
 pub saturated_join : (s p y : ℕ) → 0 < p → min (min s (2 ^ 64 - 1) * p + y) (2 ^ 64 - 1) ≡ min (s * p + y) (2 ^ 64 - 1)
 saturated_join s p y h = elim (cases_lt s (2 ^ 64 - 1)) [
   | inl low ↦ let e : min s (2 ^ 64 - 1) ≡ s = omega arith in rw e refl
   | inr high ↦ let e : min s (2 ^ 64 - 1) ≡ 2 ^ 64 - 1 = omega arith in
-      rw e (omega (arith, at_least s p (2 ^ 64 - 1) h high, at_least (2 ^ 64 - 1) p (2 ^ 64 - 1) h (le_refl (2 ^ 64 - 1))))
+      rw e (omega (arith, times_at_least s p (2 ^ 64 - 1) h high, times_at_least (2 ^ 64 - 1) p (2 ^ 64 - 1) h (le_refl (2 ^ 64 - 1))))
 ]
 
 -- ---- a cut from the quotient and the rest, and back
@@ -82,7 +82,7 @@ ten_above : (i j : ℕ) → i ≤ j → 10 ^ i ≤ 10 ^ j
 ten_above i j h =
     let e : i + (j - i) ≡ j = omega arith in
     let k : 10 ^ j ≡ 10 ^ i * 10 ^ (j - i) = ap (λ x. 10 ^ x) (sym e) ∙ pow-add 10 i (j - i) in
-    omega (arith, at_least (10 ^ i) (10 ^ (j - i)) (10 ^ i) (ten_pos (j - i)) (le_refl (10 ^ i)))
+    omega (arith, times_at_least (10 ^ i) (10 ^ (j - i)) (10 ^ i) (ten_pos (j - i)) (le_refl (10 ^ i)))
 
 pub many_zeros : (n i j : ℕ) → 20 ≤ i → 20 ≤ j → min (n * 10 ^ i) (2 ^ 64 - 1) ≡ min (n * 10 ^ j) (2 ^ 64 - 1)
 many_zeros n i j h k = twenty_fill n (10 ^ i) (ten_above 20 i h) ∙ sym (twenty_fill n (10 ^ j) (ten_above 20 j k))

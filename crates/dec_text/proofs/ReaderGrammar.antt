@@ -11,7 +11,7 @@ use Rattle.std.specs.Char.{is_ascii_digit}
 use Rattle.std.specs.Int.{IsInRange}
 use Rattle.std.specs.List.{list_all, list_any, position_or_len, before_first, after_first}
 use Rattle.std.specs.Str.Parse.{AllDigits, IsNumeral, digits_value, signed_digits_value, without_leading_sign, starts_with_minus}
-use Rattle.dec_text.specs.Calls.Reader.{is_mark, is_point, is_numeral, coefficient, unsigned_coefficient, whole, fraction, exponent, is_decimal, parts_of, decimal_of}
+use Rattle.dec_text.specs.Calls.Reader.{is_mark, is_point, is_numeral, mantissa, unsigned_mantissa, digits_before, digits_behind, exponent_text, is_decimal, decimal_parts, decimal_of}
 use Rattle.dec_text.specs.Decimal.{Decimal, IsSign, IsPoint, IsPower, IsDecimal, with_sign}
 use Rattle.dec_text.proofs.ReaderValues.{AllDigits-is_numeral, AllDigits-both, is_decimal-is}
 use Rattle.dec_text.proofs.FirstMatches.{ltb-position_or_len, position_or_len-none, position_or_len-next}
@@ -98,9 +98,9 @@ numeral_test ds h =
 
 -- ---- a text of the grammar is read as its decimal
 -- what is read of a text, by its parts
-read_as : (text : List ℕ) (d : Decimal) → is_decimal text ≡ true → starts_with_minus (coefficient text) ≡ d.negative → whole text ≡ d.before → fraction text ≡ d.behind → signed_digits_value 10 (exponent text) ≡ d.exponent → decimal_of text ≡ Some d
+decimal_of-parts : (text : List ℕ) (d : Decimal) → is_decimal text ≡ true → starts_with_minus (mantissa text) ≡ d.negative → digits_before text ≡ d.before → digits_behind text ≡ d.behind → signed_digits_value 10 (exponent_text text) ≡ d.exponent → decimal_of text ≡ Some d
 unfolding decimal_of
-read_as text d is n w f e = ap (λ b. cond b (Some (parts_of text)) None) is ∙ (λ i. Some (record { negative = n i; before = w i; behind = f i; exponent = e i }))
+decimal_of-parts text d is n w f e = ap (λ b. cond b (Some (decimal_parts text)) None) is ∙ (λ i. Some (record { negative = n i; before = w i; behind = f i; exponent = e i }))
 
 -- the sign, the body, and then nothing or a power
 module _ (negative : Bool) (s q f : List ℕ) (none : Bool) (signed : IsSign negative s) (numeral : IsNumeral 10 (q ++ f)) (f_none : none ≡ true → f ≡ []) where
@@ -122,23 +122,23 @@ module _ (negative : Bool) (s q f : List ℕ) (none : Bool) (signed : IsSign neg
       ∙ (λ i. sign_marks negative s signed i || list_any-append is_mark q (tail none f) i)
       ∙ (λ i. none_of_digits is_mark no_mark q q_digits i || tail_marks f none f_digits i)
 
-  -- a text whose coefficient this is, with a good exponent
-  with_exponent : (text : List ℕ) (e : ℤ) → coefficient text ≡ front → (not (list_any is_mark text) || is_numeral (without_leading_sign (exponent text))) ≡ true → signed_digits_value 10 (exponent text) ≡ e → decimal_of text ≡ Some (decimal_with e)
+  -- a text whose mantissa this is, with a good exponent
+  with_exponent : (text : List ℕ) (e : ℤ) → mantissa text ≡ front → (not (list_any is_mark text) || is_numeral (without_leading_sign (exponent_text text))) ≡ true → signed_digits_value 10 (exponent_text text) ≡ e → decimal_of text ≡ Some (decimal_with e)
   with_exponent text e c good value =
       let body = body_unsigned q f none q_digits in
-      let u : unsigned_coefficient text ≡ q ++ tail none f = ap without_leading_sign c ∙ behind_sign negative s (q ++ tail none f) signed body in
-      let w : whole text ≡ q = ap (λ xs. before_first is_point xs) u ∙ before_point q f none q_digits in
-      let r : fraction text ≡ f = ap (λ xs. after_first is_point xs) u ∙ behind_point q f none q_digits f_none in
+      let u : unsigned_mantissa text ≡ q ++ tail none f = ap without_leading_sign c ∙ behind_sign negative s (q ++ tail none f) signed body in
+      let w : digits_before text ≡ q = ap (λ xs. before_first is_point xs) u ∙ before_point q f none q_digits in
+      let r : digits_behind text ≡ f = ap (λ xs. after_first is_point xs) u ∙ behind_point q f none q_digits f_none in
       let tested : is_decimal text ≡ true = is_decimal-is text ∙ (λ i. is_numeral (w i ++ r i) && good i) ∙ ap (λ b. b && true) (numeral_test (q ++ f) numeral) in
-      read_as text (decimal_with e) tested (ap starts_with_minus c ∙ sign_is negative s (q ++ tail none f) signed body) w r value
+      decimal_of-parts text (decimal_with e) tested (ap starts_with_minus c ∙ sign_is negative s (q ++ tail none f) signed body) w r value
 
   no_power : decimal_of (front ++ []) ≡ Some (decimal_with (pos 0))
   no_power =
       let index : position_or_len is_mark front ≡ length front = position_or_len-none is_mark front front_marks in
-      let before : coefficient front ≡ front = ap (λ n. take n front) index ∙ take_all (length front) front (omega arith) in
-      let behind : exponent front ≡ [] = ap (λ n. drop (n + 1) front) index ∙ drop_all (length front + 1) front (omega arith) in
+      let before : mantissa front ≡ front = ap (λ n. take n front) index ∙ take_all (length front) front (omega arith) in
+      let behind : exponent_text front ≡ [] = ap (λ n. drop (n + 1) front) index ∙ drop_all (length front + 1) front (omega arith) in
       ap decimal_of (append-nil front)
-      ∙ with_exponent front (pos 0) before (ap (λ b. not b || is_numeral (without_leading_sign (exponent front))) front_marks) (ap (signed_digits_value 10) behind)
+      ∙ with_exponent front (pos 0) before (ap (λ b. not b || is_numeral (without_leading_sign (exponent_text front))) front_marks) (ap (signed_digits_value 10) behind)
 
   with_power : (power : List ℕ) (e : ℤ) → IsPower e power → decimal_of (front ++ power) ≡ Some (decimal_with e)
   with_power power e p =
@@ -146,12 +146,12 @@ module _ (negative : Bool) (s q f : List ℕ) (none : Bool) (signed : IsSign neg
       let text = front ++ (p.mark ∷ rest) in
       let mark : is_mark p.mark ≡ true = marked p.mark p.mark_is in
       let index : position_or_len is_mark text ≡ length front = position_or_len-next is_mark front p.mark rest front_marks mark in
-      let before : coefficient text ≡ front = ap (λ n. take n text) index ∙ take_at front (p.mark ∷ rest) (length front) refl in
-      let behind : exponent text ≡ rest = ap (λ n. drop (n + 1) text) index ∙ drop-append-add front (p.mark ∷ rest) 1 in
+      let before : mantissa text ≡ front = ap (λ n. take n text) index ∙ take_at front (p.mark ∷ rest) (length front) refl in
+      let behind : exponent_text text ≡ rest = ap (λ n. drop (n + 1) text) index ∙ drop-append-add front (p.mark ∷ rest) 1 in
       let plain = numeral_unsigned p.digits p.is_numeral in
-      let unsigned : without_leading_sign (exponent text) ≡ p.digits = ap without_leading_sign behind ∙ behind_sign p.negative p.sign p.digits p.is_sign plain in
-      let minus : starts_with_minus (exponent text) ≡ p.negative = ap starts_with_minus behind ∙ sign_is p.negative p.sign p.digits p.is_sign plain in
-      let size : is_numeral (without_leading_sign (exponent text)) ≡ true = ap is_numeral unsigned ∙ numeral_test p.digits p.is_numeral in
+      let unsigned : without_leading_sign (exponent_text text) ≡ p.digits = ap without_leading_sign behind ∙ behind_sign p.negative p.sign p.digits p.is_sign plain in
+      let minus : starts_with_minus (exponent_text text) ≡ p.negative = ap starts_with_minus behind ∙ sign_is p.negative p.sign p.digits p.is_sign plain in
+      let size : is_numeral (without_leading_sign (exponent_text text)) ≡ true = ap is_numeral unsigned ∙ numeral_test p.digits p.is_numeral in
       ap (λ xs. decimal_of (front ++ xs)) p.power_is
       ∙ with_exponent text e before ((λ i. not (list_any is_mark text) || size i) ∙ or_true (not (list_any is_mark text))) ((λ i. with_sign (minus i) (digits_value 10 (unsigned i))) ∙ sym p.exponent_is)
     where
@@ -207,50 +207,50 @@ point_of c = elim (cases_lt (position_or_len is_point c) (length c)) [
       ([], inr (refl, none), sym (append-nil c) ∙ (λ i. sym all i ++ sym none i))
 ]
 
-power_of : (text : List ℕ) → (not (list_any is_mark text) || is_numeral (without_leading_sign (exponent text))) ≡ true
-    → (power : List ℕ) × (((power ≡ []) × (signed_digits_value 10 (exponent text) ≡ pos 0)) ⊎ IsPower (signed_digits_value 10 (exponent text)) power) × (text ≡ coefficient text ++ power)
+power_of : (text : List ℕ) → (not (list_any is_mark text) || is_numeral (without_leading_sign (exponent_text text))) ≡ true
+    → (power : List ℕ) × (((power ≡ []) × (signed_digits_value 10 (exponent_text text) ≡ pos 0)) ⊎ IsPower (signed_digits_value 10 (exponent_text text)) power) × (text ≡ mantissa text ++ power)
 power_of text h = elim (cases_lt (position_or_len is_mark text) (length text)) [
   | inl within ↦
       let mark = get_or text (position_or_len is_mark text) 0 in
       let is = passes_at_first is_mark text 0 within in
       let some : list_any is_mark text ≡ true = sym (ltb-position_or_len is_mark text) ∙ lt-ltb (position_or_len is_mark text) (length text) within in
-      let s = sign_of (exponent text) in (
-        mark ∷ exponent text,
+      let s = sign_of (exponent_text text) in (
+        mark ∷ exponent_text text,
         inr (record {
           mark = mark;
-          negative = starts_with_minus (exponent text);
+          negative = starts_with_minus (exponent_text text);
           sign = s.0;
-          digits = without_leading_sign (exponent text);
+          digits = without_leading_sign (exponent_text text);
           power_is = ap (λ xs. mark ∷ xs) s.2;
           mark_is = which mark is;
           is_sign = s.1;
-          is_numeral = numeral_of (without_leading_sign (exponent text)) (sym (ap (λ b. not b || is_numeral (without_leading_sign (exponent text))) some) ∙ h);
+          is_numeral = numeral_of (without_leading_sign (exponent_text text)) (sym (ap (λ b. not b || is_numeral (without_leading_sign (exponent_text text))) some) ∙ h);
           exponent_is = refl;
         }),
         split_at_first is_mark text 0 within,
       )
   | inr past ↦
-      let all : coefficient text ≡ text = take_all (position_or_len is_mark text) text past in
-      let behind : exponent text ≡ [] = drop_all (position_or_len is_mark text + 1) text (omega arith) in
+      let all : mantissa text ≡ text = take_all (position_or_len is_mark text) text past in
+      let behind : exponent_text text ≡ [] = drop_all (position_or_len is_mark text + 1) text (omega arith) in
       ([], inl (refl, ap (signed_digits_value 10) behind), sym (append-nil text) ∙ ap (λ xs. xs ++ []) (sym all))
 ]
   where
     which : (m : ℕ) → is_mark m ≡ true → (m ≡ 101) ⊎ (m ≡ 69)
     which m t = elim (or_cases (eqb m 101) (eqb m 69) t) [ inl a ↦ inl (eqb-true m 101 a) | inr b ↦ inr (eqb-true m 69 b) ]
 
-parts_are_written : (text : List ℕ) → is_decimal text ≡ true → IsDecimal text (parts_of text)
+parts_are_written : (text : List ℕ) → is_decimal text ≡ true → IsDecimal text (decimal_parts text)
 parts_are_written text h =
-    let tests = and_parts (is_numeral (whole text ++ fraction text)) (not (list_any is_mark text) || is_numeral (without_leading_sign (exponent text))) (sym (is_decimal-is text) ∙ h) in
-    let s = sign_of (coefficient text) in
-    let p = point_of (unsigned_coefficient text) in
+    let tests = and_parts (is_numeral (digits_before text ++ digits_behind text)) (not (list_any is_mark text) || is_numeral (without_leading_sign (exponent_text text))) (sym (is_decimal-is text) ∙ h) in
+    let s = sign_of (mantissa text) in
+    let p = point_of (unsigned_mantissa text) in
     let e = power_of text tests.1 in
     record {
       sign = s.0;
       point = p.0;
       power = e.0;
-      text_is = e.2 ∙ ap (λ xs. xs ++ e.0) s.2 ∙ append_assoc s.0 (unsigned_coefficient text) e.0 ∙ ap (λ xs. s.0 ++ (xs ++ e.0)) p.2;
+      text_is = e.2 ∙ ap (λ xs. xs ++ e.0) s.2 ∙ append_assoc s.0 (unsigned_mantissa text) e.0 ∙ ap (λ xs. s.0 ++ (xs ++ e.0)) p.2;
       is_sign = s.1;
-      is_numeral = numeral_of (whole text ++ fraction text) tests.0;
+      is_numeral = numeral_of (digits_before text ++ digits_behind text) tests.0;
       point_is = p.1;
       power_is = e.1;
     }
@@ -258,11 +258,11 @@ parts_are_written text h =
 pub read_is_decimal : (text : List ℕ) (d : Decimal) → decimal_of text ≡ Some d → IsDecimal text d
 unfolding decimal_of
 read_is_decimal text d e = elim (cases_Bool (is_decimal text)) [
-  | inl t ↦ subst (λ x. IsDecimal text x) (same (sym (ap (λ b. cond b (Some (parts_of text)) None) t) ∙ e)) (parts_are_written text t)
-  | inr f ↦ absurd (apart (sym (ap (λ b. cond b (Some (parts_of text)) None) f) ∙ e))
+  | inl t ↦ subst (λ x. IsDecimal text x) (same (sym (ap (λ b. cond b (Some (decimal_parts text)) None) t) ∙ e)) (parts_are_written text t)
+  | inr f ↦ absurd (apart (sym (ap (λ b. cond b (Some (decimal_parts text)) None) f) ∙ e))
 ]
   where
-    same : Some (parts_of text) ≡ Some d → parts_of text ≡ d
+    same : Some (decimal_parts text) ≡ Some d → decimal_parts text ≡ d
     same h = cc
 
     apart : None ≡ Some d → ⊥

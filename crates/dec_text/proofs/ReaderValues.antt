@@ -10,11 +10,11 @@ use Rattle.dec_text.specs.declared.quotient.Quotient.{Quotient}
 use Rattle.dec_text.specs.declared.Snap.{Snap}
 use Rattle.dec_text.specs.declared.DecErr.TheVariants.{NotDecimal}
 use Rattle.dec_text.specs.Calls.Quotient.{IsQuotient}
-use Rattle.dec_text.specs.Calls.Reader.{is_mark, is_numeral, whole, fraction, exponent, is_decimal, exponent_size, parts_of, decimal_of}
+use Rattle.dec_text.specs.Calls.Reader.{is_mark, is_numeral, digits_before, digits_behind, exponent_text, is_decimal, exponent_size, decimal_parts, decimal_of}
 use Rattle.dec_text.specs.Decimal.{Decimal, with_sign, numerator, denominator, tens_up, tens_down}
 use Rattle.dec_text.specs.declared.TheConstants.{GREATEST_SIZE}
 use Rattle.dec_text.proofs.Digits.{ten_pos}
-use Rattle.dec_text.specs.Grid.{place_in_box, place_of, grid_value}
+use Rattle.dec_text.specs.Grid.{place_in_box, place_on_grid, grid_value}
 
 -- ---- a numeral's bytes are digits
 pub AllDigits-list_all : (ds : List ℕ) → list_all is_ascii_digit ds ≡ true → AllDigits 10 ds
@@ -50,15 +50,15 @@ pub grid_value-refused : (text : List ℕ) (digits : ℕ) (snap : Snap) → is_d
 unfolding grid_value decimal_of
 grid_value-refused text digits snap h = rw h refl
 
-pub grid_value-read : (text : List ℕ) (digits : ℕ) (snap : Snap) → is_decimal text ≡ true → grid_value text digits snap ≡ place_of (Some (parts_of text)) digits snap
+pub grid_value-read : (text : List ℕ) (digits : ℕ) (snap : Snap) → is_decimal text ≡ true → grid_value text digits snap ≡ place_on_grid (Some (decimal_parts text)) digits snap
 unfolding grid_value decimal_of
 grid_value-read text digits snap h = rw h refl
 
-pub grid_value-is : (text : List ℕ) (digits : ℕ) (snap : Snap) → grid_value text digits snap ≡ place_of (decimal_of text) digits snap
+pub grid_value-is : (text : List ℕ) (digits : ℕ) (snap : Snap) → grid_value text digits snap ≡ place_on_grid (decimal_of text) digits snap
 unfolding grid_value
 grid_value-is text digits snap = refl
 
-pub is_decimal-is : (text : List ℕ) → is_decimal text ≡ (is_numeral (whole text ++ fraction text) && (not (list_any is_mark text) || is_numeral (without_leading_sign (exponent text))))
+pub is_decimal-is : (text : List ℕ) → is_decimal text ≡ (is_numeral (digits_before text ++ digits_behind text) && (not (list_any is_mark text) || is_numeral (without_leading_sign (exponent_text text))))
 unfolding is_decimal
 is_decimal-is text = refl
 
@@ -72,19 +72,19 @@ tens_down-is true zero = refl
 tens_down-is true (suc n) = refl
 tens_down-is false n = refl
 
-numerator-is : (text : List ℕ) (digits : ℕ) → numerator (parts_of text) digits ≡ digits_value 10 (whole text ++ fraction text) * 10 ^ (digits + cond (starts_with_minus (exponent text)) 0 (exponent_size text))
+numerator-is : (text : List ℕ) (digits : ℕ) → numerator (decimal_parts text) digits ≡ digits_value 10 (digits_before text ++ digits_behind text) * 10 ^ (digits + cond (starts_with_minus (exponent_text text)) 0 (exponent_size text))
 unfolding numerator exponent_size
-numerator-is text digits = ap (λ n. digits_value 10 (whole text ++ fraction text) * 10 ^ (digits + n)) (tens_up-is (starts_with_minus (exponent text)) (digits_value 10 (without_leading_sign (exponent text))))
+numerator-is text digits = ap (λ n. digits_value 10 (digits_before text ++ digits_behind text) * 10 ^ (digits + n)) (tens_up-is (starts_with_minus (exponent_text text)) (digits_value 10 (without_leading_sign (exponent_text text))))
 
-denominator-is : (text : List ℕ) → denominator (parts_of text) ≡ 10 ^ (length (fraction text) + cond (starts_with_minus (exponent text)) (exponent_size text) 0)
+denominator-is : (text : List ℕ) → denominator (decimal_parts text) ≡ 10 ^ (length (digits_behind text) + cond (starts_with_minus (exponent_text text)) (exponent_size text) 0)
 unfolding denominator exponent_size
-denominator-is text = ap (λ n. 10 ^ (length (fraction text) + n)) (tens_down-is (starts_with_minus (exponent text)) (digits_value 10 (without_leading_sign (exponent text))))
+denominator-is text = ap (λ n. 10 ^ (length (digits_behind text) + n)) (tens_down-is (starts_with_minus (exponent_text text)) (digits_value 10 (without_leading_sign (exponent_text text))))
 
-pub value_quotient : (text : List ℕ) (digits : ℕ) (w f : List ℕ) (down : Bool) (c : Quotient) → w ≡ whole text → f ≡ fraction text → down ≡ starts_with_minus (exponent text)
+pub value_quotient : (text : List ℕ) (digits : ℕ) (w f : List ℕ) (down : Bool) (c : Quotient) → w ≡ digits_before text → f ≡ digits_behind text → down ≡ starts_with_minus (exponent_text text)
     → IsQuotient (digits_value 10 (w ++ f) * 10 ^ (digits + cond down 0 (exponent_size text))) (10 ^ (length f + cond down (exponent_size text) 0)) c
-    → IsQuotient (numerator (parts_of text) digits) (denominator (parts_of text)) c
+    → IsQuotient (numerator (decimal_parts text) digits) (denominator (decimal_parts text)) c
 value_quotient text digits w f down c p q r h =
-    subst (λ d. IsQuotient (numerator (parts_of text) digits) d c) ((λ i. 10 ^ (length (q i) + cond (r i) (exponent_size text) 0)) ∙ sym (denominator-is text))
+    subst (λ d. IsQuotient (numerator (decimal_parts text) digits) d c) ((λ i. 10 ^ (length (q i) + cond (r i) (exponent_size text) 0)) ∙ sym (denominator-is text))
     (subst (λ n. IsQuotient n (10 ^ (length f + cond down (exponent_size text) 0)) c)
     ((λ i. digits_value 10 (p i ++ q i) * 10 ^ (digits + cond (r i) 0 (exponent_size text))) ∙ sym (numerator-is text digits)) h)
 
@@ -103,6 +103,6 @@ pub denominator_pos : (d : Decimal) → 0 < denominator d
 unfolding denominator
 denominator_pos d = ten_pos (length d.behind + tens_down d.exponent)
 
-pub exponent_size-is : (text : List ℕ) → exponent_size text ≡ digits_value 10 (without_leading_sign (exponent text))
+pub exponent_size-is : (text : List ℕ) → exponent_size text ≡ digits_value 10 (without_leading_sign (exponent_text text))
 unfolding exponent_size
 exponent_size-is text = refl

@@ -18,13 +18,13 @@ snapped_place negative n d Exact = if n % d == 0 then place_in_box negative (n /
 snapped_place negative n d Nearest = place_in_box negative ((2 * n + d) / (2 * d))
 
 -- The place of a decimal times 10 ^ digits. The size is snapped before it has its sign, so a half goes away from zero.
-abbrev pub place_of : Option Decimal → ℕ → Snap → Result ℤ DecErr
-place_of None digits snap = Err NotDecimal
-place_of (Some d) digits snap = snapped_place d.negative (numerator d digits) (denominator d) snap
+abbrev pub place_on_grid : Option Decimal → ℕ → Snap → Result ℤ DecErr
+place_on_grid None digits snap = Err NotDecimal
+place_on_grid (Some d) digits snap = snapped_place d.negative (numerator d digits) (denominator d) snap
 
 -- the same of a text
 unfoldable pub grid_value : List ℕ → ℕ → Snap → Result ℤ DecErr
-grid_value text digits snap = place_of (decimal_of text) digits snap
+grid_value text digits snap = place_on_grid (decimal_of text) digits snap
 
 -- m is n / d, or the whole number nearest to it, where the greater of two is taken
 abbrev pub IsSnapped : Snap → ℕ → ℕ → ℕ → Type 0

@@ -3,47 +3,47 @@ ghost use Rattle.std.specs.Prelude.{◌≡◌, ◌≤◌, ◌+◌, [], ◌++◌,
 ghost use Rattle.std.specs.List.{position, position_or_len, list_any, list_all};
 ghost use Rattle.std.specs.Char.{is_ascii_digit};
 ghost use Rattle.std.specs.Str.Parse.{without_leading_sign, starts_with_minus};
-ghost use Rattle.dec_text.specs.Calls.Reader.{is_point, is_mark, is_numeral, coefficient, whole, fraction, exponent};
+ghost use Rattle.dec_text.specs.Calls.Reader.{is_point, is_mark, is_numeral, mantissa, digits_before, digits_behind, exponent_text};
 
 /// What stands where in a text, whether it is a decimal or not.
 #[derive(Drop)]
 pub(crate) struct Parts<'a> {
     pub negative: bool,
-    pub whole: &'a [u8],
-    pub fraction: &'a [u8],
+    pub before: &'a [u8],
+    pub behind: &'a [u8],
     pub has_exponent: bool,
     pub exponent: &'a [u8],
 }
 
 impl<'a> Parts<'a> {
     pub fn of(text: &'a [u8]) -> Parts<'a>
-        ensures negative { result.negative ≡ starts_with_minus (coefficient text.now) }
-        ensures whole { result.whole.now ≡ whole text.now }
-        ensures fraction { result.fraction.now ≡ fraction text.now }
+        ensures negative { result.negative ≡ starts_with_minus (mantissa text.now) }
+        ensures before { result.before.now ≡ digits_before text.now }
+        ensures behind { result.behind.now ≡ digits_behind text.now }
         ensures has_exponent { result.has_exponent ≡ list_any is_mark text.now }
-        ensures exponent { result.exponent.now ≡ exponent text.now }
+        ensures exponent { result.exponent.now ≡ exponent_text text.now }
         ensures no_exponent { ¬ (IsTrue result.has_exponent) → result.exponent.now ≡ [] }
     {
         let mark = mark_index(text);
-        let coefficient = unsigned(&text[..mark]);
-        let point = point_index(coefficient);
+        let numeral = unsigned(&text[..mark]);
+        let point = point_index(numeral);
         Parts {
             negative: is_minus_first(&text[..mark]),
-            whole: &coefficient[..point],
-            fraction: bytes_behind(coefficient, point),
+            before: &numeral[..point],
+            behind: bytes_behind(numeral, point),
             has_exponent: mark < text.len(),
             exponent: bytes_behind(text, mark),
         }
     }
 
     pub fn is_decimal(&self) -> bool
-        ensures { result ≡ (is_numeral (self.now.whole.now ++ self.now.fraction.now)
+        ensures { result ≡ (is_numeral (self.now.before.now ++ self.now.behind.now)
             && (not self.now.has_exponent || is_numeral (without_leading_sign self.now.exponent.now))) }
     {
         let exponent = unsigned(self.exponent);
-        let digits = !self.whole.is_empty() || !self.fraction.is_empty();
+        let digits = !self.before.is_empty() || !self.behind.is_empty();
         let power = !self.has_exponent || (!exponent.is_empty() && are_digits(exponent));
-        digits && power && are_digits(self.whole) && are_digits(self.fraction)
+        digits && power && are_digits(self.before) && are_digits(self.behind)
     }
 }
 

@@ -22,7 +22,7 @@ pub(crate) fn quotient_of(whole: &[u8], fraction: &[u8], up: u128, down: u128) -
         lowered_quotient(whole, fraction, down - up)
     } else {
         Quotient {
-            whole: with_zeros(number_of(whole, fraction), up - down),
+            whole: with_zeros(number_of_pieces(whole, fraction), up - down),
             is_half: false,
             has_rest: false,
         }
@@ -59,7 +59,7 @@ fn front_quotient(whole: &[u8], fraction: &[u8], count: usize) -> Quotient
     let (whole_front, whole_rest) = whole.split_at(count.min(whole.len()));
     let (fraction_front, fraction_rest) = fraction.split_at(count - whole_front.len());
     Quotient {
-        whole: number_of(whole_front, fraction_front),
+        whole: number_of_pieces(whole_front, fraction_front),
         is_half: is_half(whole, fraction, count),
         has_rest: is_above_zero(whole_rest, fraction_rest),
     }
@@ -104,7 +104,7 @@ fn with_zeros(number: u64, zeros: u128) -> u64
 }
 
 /// The number that two pieces of digits write together, or the greatest `u64`.
-fn number_of(front: &[u8], back: &[u8]) -> u64
+fn number_of_pieces(front: &[u8], back: &[u8]) -> u64
     requires front { AllDigits 10 front.now }
     requires back { AllDigits 10 back.now }
     ensures { result ≡ min (digits_value 10 (front.now ++ back.now)) (2 ^ 64 - 1) }

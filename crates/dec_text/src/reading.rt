@@ -30,7 +30,7 @@ pub fn to_grid(text: &[u8], digits: u8, snap: Snap) -> Result<i64, DecErr>
     }
     let size = number_behind(0, unsigned(parts.exponent));
     let is_down = is_minus_first(parts.exponent);
-    let quotient = scaled_quotient(parts.whole, parts.fraction, digits, is_down, size);
+    let quotient = scaled_quotient(parts.before, parts.behind, digits, is_down, size);
     snapped_place(parts.negative, quotient, snap)
 }
 

@@ -18,42 +18,42 @@ abbrev pub is_numeral : List ℕ → Bool
 is_numeral bs = nat_lt 0 (length bs) && list_all is_ascii_digit bs
 
 -- what stands before the mark, and the same without its sign
-abbrev pub coefficient : List ℕ → List ℕ
-coefficient text = before_first is_mark text
+abbrev pub mantissa : List ℕ → List ℕ
+mantissa text = before_first is_mark text
 
-abbrev pub unsigned_coefficient : List ℕ → List ℕ
-unsigned_coefficient text = without_leading_sign (coefficient text)
+abbrev pub unsigned_mantissa : List ℕ → List ℕ
+unsigned_mantissa text = without_leading_sign (mantissa text)
 
 -- what stands before the point, and what stands behind it
-abbrev pub whole : List ℕ → List ℕ
-whole text = before_first is_point (unsigned_coefficient text)
+abbrev pub digits_before : List ℕ → List ℕ
+digits_before text = before_first is_point (unsigned_mantissa text)
 
-abbrev pub fraction : List ℕ → List ℕ
-fraction text = after_first is_point (unsigned_coefficient text)
+abbrev pub digits_behind : List ℕ → List ℕ
+digits_behind text = after_first is_point (unsigned_mantissa text)
 
 -- what stands behind the mark: the exponent with its sign
-abbrev pub exponent : List ℕ → List ℕ
-exponent text = after_first is_mark text
+abbrev pub exponent_text : List ℕ → List ℕ
+exponent_text text = after_first is_mark text
 
 -- the size of the exponent
 unfoldable pub exponent_size : List ℕ → ℕ
-exponent_size text = digits_value 10 (without_leading_sign (exponent text))
+exponent_size text = digits_value 10 (without_leading_sign (exponent_text text))
 
 -- digits stand before and behind the point, one at least, and an exponent has digits behind its sign
 unfoldable pub is_decimal : List ℕ → Bool
 is_decimal text =
-    is_numeral (whole text ++ fraction text)
-    && (not (list_any is_mark text) || is_numeral (without_leading_sign (exponent text)))
+    is_numeral (digits_before text ++ digits_behind text)
+    && (not (list_any is_mark text) || is_numeral (without_leading_sign (exponent_text text)))
 
 -- the parts of a text, whether it is a decimal or not
-abbrev pub parts_of : List ℕ → Decimal
-parts_of text = record {
-  negative = starts_with_minus (coefficient text);
-  before = whole text;
-  behind = fraction text;
-  exponent = signed_digits_value 10 (exponent text);
+abbrev pub decimal_parts : List ℕ → Decimal
+decimal_parts text = record {
+  negative = starts_with_minus (mantissa text);
+  before = digits_before text;
+  behind = digits_behind text;
+  exponent = signed_digits_value 10 (exponent_text text);
 }
 
 -- the decimal that a text is, if it is one
 unfoldable pub decimal_of : List ℕ → Option Decimal
-decimal_of text = if is_decimal text then Some (parts_of text) else None
+decimal_of text = if is_decimal text then Some (decimal_parts text) else None

@@ -5,11 +5,11 @@ use Rattle.dec_text.proofs.TwoPieces.{take-both, drop-both}
 use Rattle.dec_text.proofs.Quotients.{front_is_quotient}
 use Rattle.dec_text.proofs.quotient.front_quotient.Goals as goal
 
-pub number_of-requires-clause-front : goal.number_of-requires-clause-front
-number_of-requires-clause-front c = subst (AllDigits 10) (sym c.split_at.ensures.front) (AllDigits-take _ c.args.whole.now c.requires.whole)
+pub number_of_pieces-requires-clause-front : goal.number_of_pieces-requires-clause-front
+number_of_pieces-requires-clause-front c = subst (AllDigits 10) (sym c.split_at.ensures.front) (AllDigits-take _ c.args.whole.now c.requires.whole)
 
-pub number_of-requires-clause-back : goal.number_of-requires-clause-back
-number_of-requires-clause-back c = subst (AllDigits 10) (sym c.split_at-2.ensures.front) (AllDigits-take _ c.args.fraction.now c.requires.fraction)
+pub number_of_pieces-requires-clause-back : goal.number_of_pieces-requires-clause-back
+number_of_pieces-requires-clause-back c = subst (AllDigits 10) (sym c.split_at-2.ensures.front) (AllDigits-take _ c.args.fraction.now c.requires.fraction)
 
 pub is_above_zero-requires-clause-front : goal.is_above_zero-requires-clause-front
 is_above_zero-requires-clause-front c = subst (AllDigits 10) (sym c.split_at.ensures.back) (AllDigits-drop _ c.args.whole.now c.requires.whole)
@@ -29,5 +29,5 @@ returns c =
     (λ i. c.split_at.ensures.back i ++ c.split_at-2.ensures.back i) ∙ drop-both count c.min.result (count - length c.split_at.result.0.now) whole fraction c.min.ensures back in
     front_is_quotient (whole ++ fraction) count (length whole + length fraction - count) _ (AllDigits-append whole fraction c.requires.whole c.requires.fraction)
     (omega (arith, length-append whole fraction)) (omega (arith, length-append whole fraction))
-    (c.number_of.ensures ∙ ap (λ ds. min (digits_value 10 ds) (2 ^ 64 - 1)) front) c.is_half.ensures
+    (c.number_of_pieces.ensures ∙ ap (λ ds. min (digits_value 10 ds) (2 ^ 64 - 1)) front) c.is_half.ensures
     (c.is_above_zero.ensures ∙ ap (λ ds. ltb 0 (digits_value 10 ds)) rest)

@@ -19,4 +19,4 @@ pub returns-else-up-down : goal.returns-else-up-down
 returns-else-up-down c =
     let n = digits_value 10 (c.args.whole.now ++ c.args.fraction.now) in
     let below = c.if-up-down.false in
-    grown_quotient n c.args.up c.args.down _ below (c.with_zeros.ensures ∙ ap (λ m. min (m * 10 ^ (c.args.up - c.args.down)) (2 ^ 64 - 1)) c.number_of.ensures) refl refl
+    grown_quotient n c.args.up c.args.down _ below (c.with_zeros.ensures ∙ ap (λ m. min (m * 10 ^ (c.args.up - c.args.down)) (2 ^ 64 - 1)) c.number_of_pieces.ensures) refl refl

@@ -1,6 +1,6 @@
 use Rattle.std.proofs.Common.{◌≡◌, ℕ, ◌+◌, ◌-◌, ◌*◌, ◌^◌, ◌++◌, min, ◌&&◌, ◌||◌, not, length, subst, sym, ap, ◌∙◌, arith}
 use Rattle.std.specs.Str.Parse.{AllDigits, digits_value, without_leading_sign, starts_with_minus}
-use Rattle.dec_text.specs.Calls.Reader.{is_numeral, is_decimal, exponent_size, parts_of}
+use Rattle.dec_text.specs.Calls.Reader.{is_numeral, is_decimal, exponent_size, decimal_parts}
 use Rattle.dec_text.specs.Decimal.{numerator, denominator}
 use Rattle.dec_text.specs.Grid.{snapped_place, grid_value, IsAnswer}
 use Rattle.dec_text.proofs.Meaning.{value_is_answer, answer_in_box}
@@ -11,7 +11,7 @@ pub returns-then-not-is_decimal-clause-value : goal.returns-then-not-is_decimal-
 returns-then-not-is_decimal-clause-value c =
     let parts = c.of-parts.ensures in
     let tested : c.is_decimal.result ≡ is_decimal c.args.text.now =
-    c.is_decimal.ensures ∙ (λ i. is_numeral (parts.whole i ++ parts.fraction i) && (not (parts.has_exponent i) || is_numeral (without_leading_sign (parts.exponent i)))) ∙ sym (is_decimal-is c.args.text.now) in
+    c.is_decimal.ensures ∙ (λ i. is_numeral (parts.before i ++ parts.behind i) && (not (parts.has_exponent i) || is_numeral (without_leading_sign (parts.exponent i)))) ∙ sym (is_decimal-is c.args.text.now) in
     grid_value-refused c.args.text.now c.args.digits c.args.snap (sym tested ∙ c.if-not-is_decimal.true)
 
 pub returns-then-not-is_decimal-clause-answer : goal.returns-then-not-is_decimal-clause-answer
@@ -23,18 +23,18 @@ returns-then-not-is_decimal-clause-answer c =
 pub number_behind-size-requires : goal.number_behind-size-requires
 number_behind-size-requires c =
     let parts = c.of-parts.result in
-    let digits = decimal_digits parts.whole.now parts.fraction.now parts.exponent.now parts.has_exponent (sym c.is_decimal.ensures ∙ c.if-not-is_decimal.false) c.of-parts.ensures.no_exponent in
+    let digits = decimal_digits parts.before.now parts.behind.now parts.exponent.now parts.has_exponent (sym c.is_decimal.ensures ∙ c.if-not-is_decimal.false) c.of-parts.ensures.no_exponent in
     subst (AllDigits 10) (sym c.unsigned.ensures) digits.2
 
 pub scaled_quotient-quotient-requires-clause-whole : goal.scaled_quotient-quotient-requires-clause-whole
 scaled_quotient-quotient-requires-clause-whole c =
     let parts = c.of-parts.result in
-    (decimal_digits parts.whole.now parts.fraction.now parts.exponent.now parts.has_exponent (sym c.is_decimal.ensures ∙ c.if-not-is_decimal.false) c.of-parts.ensures.no_exponent).0
+    (decimal_digits parts.before.now parts.behind.now parts.exponent.now parts.has_exponent (sym c.is_decimal.ensures ∙ c.if-not-is_decimal.false) c.of-parts.ensures.no_exponent).0
 
 pub scaled_quotient-quotient-requires-clause-fraction : goal.scaled_quotient-quotient-requires-clause-fraction
 scaled_quotient-quotient-requires-clause-fraction c =
     let parts = c.of-parts.result in
-    (decimal_digits parts.whole.now parts.fraction.now parts.exponent.now parts.has_exponent (sym c.is_decimal.ensures ∙ c.if-not-is_decimal.false) c.of-parts.ensures.no_exponent).1
+    (decimal_digits parts.before.now parts.behind.now parts.exponent.now parts.has_exponent (sym c.is_decimal.ensures ∙ c.if-not-is_decimal.false) c.of-parts.ensures.no_exponent).1
 
 value : (c : goal.After-snapped_place) → c.snapped_place.result ≡ grid_value c.args.text.now c.args.digits c.args.snap
 value c =
@@ -42,17 +42,17 @@ value c =
     let digits = c.args.digits in
     let parts = c.of-parts.ensures in
     let tested : c.is_decimal.result ≡ is_decimal text =
-    c.is_decimal.ensures ∙ (λ i. is_numeral (parts.whole i ++ parts.fraction i) && (not (parts.has_exponent i) || is_numeral (without_leading_sign (parts.exponent i)))) ∙ sym (is_decimal-is text) in
+    c.is_decimal.ensures ∙ (λ i. is_numeral (parts.before i ++ parts.behind i) && (not (parts.has_exponent i) || is_numeral (without_leading_sign (parts.exponent i)))) ∙ sym (is_decimal-is text) in
     let size : c.number_behind-size.result ≡ min (exponent_size text) (2 ^ 64 - 1) =
     c.number_behind-size.ensures
     ∙ only (10 ^ length c.unsigned.result.now) (digits_value 10 c.unsigned.result.now)
     ∙ ap (λ ds. min (digits_value 10 ds) (2 ^ 64 - 1)) (c.unsigned.ensures ∙ ap without_leading_sign parts.exponent)
     ∙ ap (λ n. min n (2 ^ 64 - 1)) (sym (exponent_size-is text)) in
-    let quotient = value_quotient text digits c.of-parts.result.whole.now c.of-parts.result.fraction.now c.is_minus_first-is_down.result c.scaled_quotient-quotient.result parts.whole parts.fraction
+    let quotient = value_quotient text digits c.of-parts.result.before.now c.of-parts.result.behind.now c.is_minus_first-is_down.result c.scaled_quotient-quotient.result parts.before parts.behind
     (c.is_minus_first-is_down.ensures ∙ ap starts_with_minus parts.exponent) (c.scaled_quotient-quotient.ensures (exponent_size text) size) in
-    let n = numerator (parts_of text) digits in
-    let d = denominator (parts_of text) in
-    c.snapped_place.ensures n d (denominator_pos (parts_of text)) quotient
+    let n = numerator (decimal_parts text) digits in
+    let d = denominator (decimal_parts text) in
+    c.snapped_place.ensures n d (denominator_pos (decimal_parts text)) quotient
     ∙ ap (λ b. snapped_place b n d c.args.snap) parts.negative
     ∙ sym (grid_value-read text digits c.args.snap (sym tested ∙ c.if-not-is_decimal.false))
   where

@@ -2,7 +2,7 @@ use Rattle.std.proofs.Common.{◌≡◌, ◌+◌, ◌-◌, ◌*◌, ◌^◌, min
 use Rattle.std.specs.Str.Parse.{digits_value}
 use Rattle.dec_text.proofs.Digits.{digits_value-append, ten_pos}
 use Rattle.dec_text.proofs.Quotients.{saturated_join}
-use Rattle.dec_text.proofs.quotient.number_of.Goals as goal
+use Rattle.dec_text.proofs.quotient.number_of_pieces.Goals as goal
 
 pub returns : goal.returns
 returns c =
