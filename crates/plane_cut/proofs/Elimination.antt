@@ -10,7 +10,7 @@ use Rattle.space3.specs.Vectors.{origin, dot_product}
 use Rattle.list_laws.proofs.Elements.{All-append_left, All-append_right}
 use Rattle.whole_laws.proofs.Ring.{ring, v, num, neg, ◌⊕◌, ◌⊗◌}
 use Rattle.plane_cut.specs.Planes.{IsPlane, HasPlane}
-use Rattle.plane_cut.proofs.Linear.{mixed, dot-mixed, same_vector, Axis, axis_x, axis_y, axis_z}
+use Rattle.plane_cut.proofs.Linear.{mixed, dot-mixed, same_vector, along, Axis, axis_x, axis_y, axis_z}
 use Rattle.plane_cut.proofs.Step.{Flat, Agree, Holds, serve, by_sign}
 
 -- the vectors of which M holds are closed under combinations with positive factors
@@ -111,7 +111,7 @@ lifted axis n rows fl ag =
     let s = serve (dot_product n) axis.of rows fl ag in (
       mixed s.s s.y n axis.unit,
       All-weaker (Holds (dot_product n) axis.of s.s s.y) (λ r. pos 0 <ℤ dot_product (mixed s.s s.y n axis.unit) r)
-          (λ r h. subst (λ (z : ℤ). pos 0 <ℤ z) (sym (axis.along s.s s.y n r)) h) rows s.holds,
+          (λ r h. subst (λ (z : ℤ). pos 0 <ℤ z) (sym (along axis s.s s.y n r)) h) rows s.holds,
     )
 
 eliminate : (M : V3 → Type 0) (axis : Axis) → IsClosed M → (rows : List V3) → All M rows → Eliminated (IsGone M axis) rows
