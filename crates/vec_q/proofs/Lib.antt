@@ -1,1 +1,2 @@
+pub mod Adjugates
 pub mod Products

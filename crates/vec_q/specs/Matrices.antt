@@ -1,5 +1,5 @@
 -- 3x3 matrices of whole numbers of any size.
-use Rattle.std.specs.Prelude.{ℤ, ◌+ℤ◌}
+use Rattle.std.specs.Prelude.{ℤ, pos, ◌+ℤ◌}
 use Rattle.space3.specs.declared.vectors.V3.{V3}
 use Rattle.space3.specs.Vectors.{vector, dot_product, cross_product, determinant}
 
@@ -34,9 +34,13 @@ product_of m n = columns (times_vector m n.first) (times_vector m n.second) (tim
 abbrev pub cofactors : M3 → M3
 cofactors m = columns (cross_product m.second m.third) (cross_product m.third m.first) (cross_product m.first m.second)
 
--- the matrix that gives the determinant times the unit matrix, when it is multiplied with m
+-- the transposed cofactors: times m, they give the determinant times the unit matrix
 abbrev pub adjugate : M3 → M3
 adjugate m = transposed (cofactors m)
+
+-- the unit matrix times a number
+abbrev pub unit_times : ℤ → M3
+unit_times k = columns (vector k (pos 0) (pos 0)) (vector (pos 0) k (pos 0)) (vector (pos 0) (pos 0) k)
 
 -- the determinant: the triple product of the columns
 abbrev pub determinant_of : M3 → ℤ

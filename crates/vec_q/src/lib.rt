@@ -3,8 +3,10 @@
 //! clauses a vector is seen as the vector of its raw numbers, and a matrix as that of its columns.
 #![tactic(auto)]
 
+mod laws;
 mod matrices;
 mod vectors;
 
+pub use laws::adjugate_gives_the_determinant;
 pub use matrices::MatQ;
 pub use vectors::{VecQ, edge_between};
