@@ -1,0 +1,3 @@
+-- Words that only private calls cite.
+pub mod Moves
+pub mod Halves

@@ -1,0 +1,15 @@
+-- What the values of private calls stand for.
+use Rattle.std.specs.Prelude.{pos, List, take}
+use Rattle.space3.specs.Vectors.{multiple, sum_of}
+use Rattle.safe_motion.specs.declared.motion.Move.{Move}
+use Rattle.pair_cert.specs.declared.moves.RelativeMoves.{RelativeMoves}
+use Rattle.pair_cert.specs.declared.moves.Half.{Half}
+use Rattle.pair_cert.specs.declared.moves.Half.TheVariants.{First, Second}
+
+abbrev pub moves_in : RelativeMoves → List Move
+moves_in moves = take moves.count moves.at
+
+-- the first or the second half of a move, times 2
+abbrev pub half_of : Half → Move → Move
+half_of First m = record { start = multiple (pos 2) m.start; end = sum_of m.start m.end }
+half_of Second m = record { start = sum_of m.start m.end; end = multiple (pos 2) m.end }

@@ -1,0 +1,68 @@
+//! The halves of an interval.
+ghost use Rattle.std.specs.Prelude.{◌≡◌, ◌^◌, ◌<◌, ◌≤◌, pos, ◌+ℤ◌, ◌*ℤ◌, All, map};
+ghost use Rattle.space3.specs.Vectors.{AtMost, Within, multiple, sum_of};
+ghost use Rattle.pair_cert.specs.Calls.Moves.{HasRoom};
+ghost use Rattle.pair_cert.specs.Calls.Halves.{half_of, moves_in};
+
+use crate::moves::{Half, RelativeMoves};
+use safe_motion::Move;
+use space3::V3;
+
+// The moves in one half of their interval, times 2.
+pub fn halves(moves: &RelativeMoves, half: Half) -> RelativeMoves
+    requires { All (HasRoom 1) (moves_in moves.now) }
+    ensures { moves_in result ≡ map (half_of half) (moves_in moves.now) }
+{
+    let mut at = moves.at;
+    for i in 0..moves.count {
+        at[i] = half_move(moves.at[i], half);
+    }
+    RelativeMoves {
+        count: moves.count,
+        at,
+    }
+}
+
+fn half_move(m: Move, half: Half) -> Move
+    requires { HasRoom 1 m }
+    ensures { result ≡ half_of half m }
+{
+    let middle = sum(m.start, m.end);
+    match half {
+        Half::First => Move {
+            start: double(m.start),
+            end: middle,
+        },
+        Half::Second => Move {
+            start: middle,
+            end: double(m.end),
+        },
+    }
+}
+
+fn double(a: V3) -> V3
+    requires { Within (2 ^ 30) (multiple (pos 2) a) }
+    ensures { result ≡ multiple (pos 2) a }
+{
+    sum(a, a)
+}
+
+fn sum(a: V3, b: V3) -> V3
+    requires left { Within (2 ^ 29) a }
+    requires right { Within (2 ^ 29) b }
+    ensures { result ≡ sum_of a b }
+{
+    V3 {
+        x: plus(a.x, b.x),
+        y: plus(a.y, b.y),
+        z: plus(a.z, b.z),
+    }
+}
+
+fn plus(a: i64, b: i64) -> i64
+    requires left { AtMost (2 ^ 29) a }
+    requires right { AtMost (2 ^ 29) b }
+    ensures { result ≡ a +ℤ b }
+{
+    a + b
+}

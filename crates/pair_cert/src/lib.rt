@@ -1,0 +1,13 @@
+//! Whether two parts of a mesh that move straight are certified to stay apart.
+//! One vector that separates them at both ends of an interval does so inside. Where none does, the
+//! interval is halved, up to eight times.
+#![tactic(auto)]
+
+mod certificate;
+mod guesses;
+mod halves;
+mod moves;
+mod planes;
+mod relative;
+
+pub use certificate::certify_pair;
