@@ -1,3 +1,7 @@
 pub mod Corners
-pub mod Rooms
+pub mod Halvings
 pub mod Lists
+pub mod Rooms
+pub mod Searches
+pub mod Separations
+pub mod Tallies

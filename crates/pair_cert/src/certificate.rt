@@ -1,7 +1,7 @@
 //! The certificate of two parts in motion.
-ghost use Rattle.std.specs.Prelude.{◌≡◌, ℕ, ◌≤◌, ◌↔◌, IsTrue, List, All};
+ghost use Rattle.std.specs.Prelude.{◌≡◌, ℕ, ◌≤◌, ◌↔◌, IsTrue, List, All, length};
 ghost use Rattle.safe_motion.specs.declared.motion.Move.{Move};
-ghost use Rattle.safe_motion.specs.Boxes.{SweptBoxesTouch};
+ghost use Rattle.safe_motion.specs.SweptBoxes.{SweptBoxesTouch};
 ghost use Rattle.safe_motion.specs.Certificates.{ByHalves, IsServed, PairCertificate};
 ghost use Rattle.safe_motion.specs.Meeting.{MeetAt};
 ghost use Rattle.safe_motion.specs.Moments.{IsFraction};
@@ -25,7 +25,7 @@ const DEPTH: u8 = 8;
 /// The first part has at most 2 points; points are in grid units, in the box at the start and at the end. The tally
 /// counts plane decisions: none where the boxes over start and end don't touch, else at most 511.
 pub fn certify_pair(a: &Part, b: &Part, tally: &mut Tally) -> bool
-    requires few { a.now.start.count ≤ 2 }
+    requires few { length (moves_of a.now) ≤ 2 }
     requires near_left { StaysInTheBox a.now }
     requires near_right { StaysInTheBox b.now }
     ensures certificate { IsTrue result ↔ PairCertificate 8 (moves_of a.now) (moves_of b.now) }
@@ -33,6 +33,7 @@ pub fn certify_pair(a: &Part, b: &Part, tally: &mut Tally) -> bool
     ensures tally { RisesAtMost (intervals_within 8) tally.old.n tally.new.n }
     ensures untouched { ¬ SweptBoxesTouch (moves_of a.now) (moves_of b.now) → tally.new.n ≡ tally.old.n }
 {
+    let _count = tally.n;
     if !do_boxes_touch(a, b) {
         return true;
     }

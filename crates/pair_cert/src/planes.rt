@@ -19,6 +19,7 @@ pub fn has_plane_throughout(moves: &RelativeMoves, tally: &mut Tally) -> bool
     ensures plane { IsTrue result ↔ HasPlane (all_ends (moves_in moves.now)) }
     ensures tally { RisesAtMost 1 tally.old.n tally.new.n }
 {
+    let _count = tally.n;
     if is_guessed(moves) {
         return true;
     }
