@@ -6,7 +6,7 @@ ghost use Rattle.pair_cert.specs.Calls.Moves.{IsAhead, IsShort, all_ends};
 ghost use Rattle.pair_cert.specs.Calls.Halves.{moves_in};
 ghost use Rattle.pair_cert.specs.Tallies.{RisesAtMost};
 
-use crate::guesses::{guess, guess_count};
+use crate::guesses::{centre_way, edge_count, normal, normal_count, upright_way};
 use crate::moves::RelativeMoves;
 use plane_cut::{Tally, has_plane};
 use safe_motion::Move;
@@ -31,8 +31,33 @@ fn is_guessed(moves: &RelativeMoves) -> bool
     requires { All IsShort (moves_in moves.now) }
     ensures { IsTrue result → HasPlane (all_ends (moves_in moves.now)) }
 {
-    for kind in 0..guess_count() {
-        if are_ahead(guess(moves, kind), moves) {
+    let way = centre_way(moves);
+    if are_ahead(way, moves) {
+        return true;
+    }
+    is_normal_ahead(moves, way) || is_upright_ahead(moves, way)
+}
+
+// Whether a cross product of two edges serves.
+fn is_normal_ahead(moves: &RelativeMoves, way: V3) -> bool
+    requires { All IsShort (moves_in moves.now) }
+    ensures { IsTrue result → HasPlane (all_ends (moves_in moves.now)) }
+{
+    for k in 0..normal_count(moves) {
+        if are_ahead(normal(moves, way, k), moves) {
+            return true;
+        }
+    }
+    false
+}
+
+// Whether the way serves without its part along an edge.
+fn is_upright_ahead(moves: &RelativeMoves, way: V3) -> bool
+    requires { All IsShort (moves_in moves.now) }
+    ensures { IsTrue result → HasPlane (all_ends (moves_in moves.now)) }
+{
+    for k in 0..edge_count(moves) {
+        if are_ahead(upright_way(moves, way, k), moves) {
             return true;
         }
     }
