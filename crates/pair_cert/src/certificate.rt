@@ -1,5 +1,5 @@
 //! The certificate of two parts in motion.
-ghost use Rattle.std.specs.Prelude.{◌≡◌, ℕ, ◌≤◌, ◌↔◌, IsTrue, List, All, length};
+ghost use Rattle.std.specs.Prelude.{◌≡◌, ℕ, ◌≤◌, ◌↔◌, IsTrue, List, All};
 ghost use Rattle.safe_motion.specs.declared.motion.Move.{Move};
 ghost use Rattle.safe_motion.specs.SweptBoxes.{SweptBoxesTouch};
 ghost use Rattle.safe_motion.specs.Certificates.{ByHalves, IsServed, PairCertificate};
@@ -25,7 +25,7 @@ const DEPTH: u8 = 8;
 /// The first part has at most 2 points; points are in grid units, in the box at the start and at the end. The tally
 /// counts plane decisions: none where the boxes over start and end don't touch, else at most 511.
 pub fn certify_pair(a: &Part, b: &Part, tally: &mut Tally) -> bool
-    requires few { length (moves_of a.now) ≤ 2 }
+    requires few { a.now.start.count ≤ 2 }
     requires near_left { StaysInTheBox a.now }
     requires near_right { StaysInTheBox b.now }
     ensures certificate { IsTrue result ↔ PairCertificate 8 (moves_of a.now) (moves_of b.now) }

@@ -18,7 +18,7 @@ const STILL: Move = Move {
 
 // The points of the first part as seen from those of the second.
 pub fn relative_moves(a: &Part, b: &Part) -> RelativeMoves
-    requires few { length (moves_of a.now) ≤ 2 }
+    requires few { a.now.start.count ≤ 2 }
     requires near_left { StaysInTheBox a.now }
     requires near_right { StaysInTheBox b.now }
     ensures moves { moves_in result ≡ relative_moves (moves_of a.now) (moves_of b.now) }
