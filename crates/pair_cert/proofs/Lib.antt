@@ -1,7 +1,8 @@
-pub mod Corners
+pub mod CornerMoves
 pub mod Halvings
 pub mod Lists
 pub mod Rooms
 pub mod Searches
 pub mod Separations
+pub mod SweptBoxes
 pub mod Tallies

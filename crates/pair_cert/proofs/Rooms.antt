@@ -7,14 +7,15 @@ use Rattle.std.proofs.lemmas.List.Elements.{All-map, All-weaker}
 use Rattle.space3.specs.declared.vectors.V3.{V3}
 use Rattle.space3.specs.Vectors.{AtMost, Within, difference, multiple, sum_of}
 use Rattle.whole_laws.proofs.Order.{size_diff, size_sum}
+use Rattle.safe_motion.specs.declared.depth.TheConstants.{DEPTH}
 use Rattle.safe_motion.specs.declared.motion.Move.{Move}
 use Rattle.pair_cert.specs.declared.moves.Half.{Half}
 use Rattle.pair_cert.specs.declared.moves.Half.TheVariants.{First, Second}
 use Rattle.pair_cert.specs.Calls.Moves.{HasRoom, IsNear, IsShort, relative_move}
 use Rattle.pair_cert.specs.Calls.Halves.{half_of}
 
--- the difference of two points in the box has room for eight halvings
-pub relative_room : (x y : Move) → IsNear x → IsNear y → HasRoom 8 (relative_move x y)
+-- the difference of two points in the box has room for all halvings
+pub relative_room : (x y : Move) → IsNear x → IsNear y → HasRoom DEPTH (relative_move x y)
 relative_room x y h k = record { start = apart x.start y.start h.start k.start; end = apart x.end y.end h.end k.end }
   where
     each : (a b : ℤ) → AtMost (2 ^ 20) a → AtMost (2 ^ 20) b → AtMost (2 ^ 29) (pos (2 ^ 8) *ℤ (a -ℤ b))

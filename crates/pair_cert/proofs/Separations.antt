@@ -56,7 +56,7 @@ pub served_plane : (xs ys : List Move) (j m : ℕ) → IsServed xs ys j m ↔ Ha
 served_plane xs ys j m = (
   λ s. (s.normal, plane_of_ends s.normal (moves_within xs ys j m) (ahead s.normal s.serves.before s.serves.after)),
   λ p. let each = ends_of_plane p.0 (moves_within xs ys j m) p.1 in
-  record { normal = p.0; serves = record { before = early p.0 each; after = late p.0 each } },
+      record { normal = p.0; serves = record { before = early p.0 each; after = late p.0 each } },
 )
   where
     along : (n a b : V3) → a ≡ b → pos 0 <ℤ dot_product n b → pos 0 <ℤ dot_product n a

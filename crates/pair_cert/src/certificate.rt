@@ -1,5 +1,7 @@
 //! The certificate of two parts in motion.
 ghost use Rattle.std.specs.Prelude.{◌≡◌, ℕ, ◌≤◌, ◌↔◌, IsTrue, List, All};
+ghost use Rattle.plane_cut.specs.declared.meeting.TheConstants.{FIRST_LIMIT};
+ghost use Rattle.safe_motion.specs.declared.depth.TheConstants.{DEPTH};
 ghost use Rattle.safe_motion.specs.declared.motion.Move.{Move};
 ghost use Rattle.safe_motion.specs.SweptBoxes.{SweptBoxesTouch};
 ghost use Rattle.safe_motion.specs.Certificates.{ByHalves, IsServed, PairCertificate};
@@ -10,41 +12,33 @@ ghost use Rattle.pair_cert.specs.Calls.Halves.{moves_in};
 ghost use Rattle.pair_cert.specs.Parts.{StaysInTheBox, moves_of};
 ghost use Rattle.pair_cert.specs.Tallies.{RisesAtMost, intervals_within};
 
-use crate::halves::halves;
+use crate::halves::half_moves;
 use crate::moves::{Half, RelativeMoves};
 use crate::planes::has_plane_throughout;
 use crate::relative::relative_moves;
-use plane_cut::Tally;
+use crate::swept_boxes::do_swept_boxes_touch;
+use plane_cut::{FIRST_LIMIT, Tally};
+use safe_motion::DEPTH;
 use space3::Part;
-
-// How often an interval is halved at most.
-const DEPTH: u8 = 8;
 
 /// Whether the parts `a` and `b`, which move straight, are certified to stay apart: whether for each of 256 equal
 /// intervals of the step some whole vector separates them at both ends of it. False says nothing of their meeting.
 /// The first part has at most 2 points; points are in grid units, in the box at the start and at the end. The tally
 /// counts plane decisions: none where the boxes over start and end don't touch, else at most 511.
 pub fn certify_pair(a: &Part, b: &Part, tally: &mut Tally) -> bool
-    requires few { a.now.start.count ≤ 2 }
+    requires few { a.now.start.count ≤ FIRST_LIMIT }
     requires near_left { StaysInTheBox a.now }
     requires near_right { StaysInTheBox b.now }
-    ensures certificate { IsTrue result ↔ PairCertificate 8 (moves_of a.now) (moves_of b.now) }
+    ensures certificate { IsTrue result ↔ PairCertificate DEPTH (moves_of a.now) (moves_of b.now) }
     ensures apart { IsTrue result → (p q : ℕ) → IsFraction p q → ¬ MeetAt p q (moves_of a.now) (moves_of b.now) }
-    ensures tally { RisesAtMost (intervals_within 8) tally.old.n tally.new.n }
+    ensures tally { RisesAtMost (intervals_within DEPTH) tally.old.n tally.new.n }
     ensures untouched { ¬ SweptBoxesTouch (moves_of a.now) (moves_of b.now) → tally.new.n ≡ tally.old.n }
 {
     let _count = tally.n;
-    if !do_boxes_touch(a, b) {
+    if !do_swept_boxes_touch(a, b) {
         return true;
     }
     is_certified(&relative_moves(a, b), DEPTH, tally)
-}
-
-// Whether the boxes over start and end touch.
-fn do_boxes_touch(a: &Part, b: &Part) -> bool
-    ensures { IsTrue result ↔ SweptBoxesTouch (moves_of a.now) (moves_of b.now) }
-{
-    true
 }
 
 // Whether an interval with these relative moves is certified by so many halvings at most.
@@ -60,6 +54,6 @@ fn is_certified(moves: &RelativeMoves, depth: u8, tally: &mut Tally) -> bool
     if depth == 0 {
         return false;
     }
-    is_certified(&halves(moves, Half::First), depth - 1, tally)
-        && is_certified(&halves(moves, Half::Second), depth - 1, tally)
+    is_certified(&half_moves(moves, Half::First), depth - 1, tally)
+        && is_certified(&half_moves(moves, Half::Second), depth - 1, tally)
 }

@@ -1,17 +1,18 @@
 //! Vectors that may separate two parts, from cheap sums and products. No clause says that one does, since each is tried
 //! before it is taken; products wrap where they are too great. Places are those halfway, times 2.
 ghost use Rattle.std.specs.Prelude.{◌≡◌, ◌^◌, ◌<◌};
+ghost use Rattle.space3.specs.declared.vectors.TheConstants.{VECTOR_LIMIT};
 ghost use Rattle.space3.specs.Vectors.{AtMost, Within};
 
 use crate::moves::RelativeMoves;
-use space3::V3;
+use space3::{V3, VECTOR_LIMIT};
 
-// The greatest component of a guessed vector: room for its product with a row.
-const MOST: i64 = 1073741824;
+// The leading zeros of a number that is below the limit of a vector.
+const SPARE_BITS: u32 = 34;
 
-// The way between the parts' centres.
-pub fn centre_way(moves: &RelativeMoves) -> V3
-    ensures { Within (2 ^ 30) result }
+// The difference of the centres of both parts.
+pub fn centre_difference(moves: &RelativeMoves) -> V3
+    ensures { Within VECTOR_LIMIT result }
 {
     let mut sum = V3 { x: 0, y: 0, z: 0 };
     for i in 0..moves.count {
@@ -29,9 +30,10 @@ pub fn normal_count(moves: &RelativeMoves) -> usize {
     }
 }
 
-// The cross product of two edges, to the side of the way: the normal of a triangle, or across an edge of each part.
-pub fn normal(moves: &RelativeMoves, way: V3, k: usize) -> V3
-    ensures { Within (2 ^ 30) result }
+// The cross product of two edges, on the side of the difference of centres: the normal of a triangle, or a vector
+// across an edge of each part.
+pub fn normal(moves: &RelativeMoves, centres: V3, k: usize) -> V3
+    ensures { Within VECTOR_LIMIT result }
 {
     let across = match k {
         0 => cross(edge(moves, 0), edge(moves, 1)),
@@ -39,7 +41,7 @@ pub fn normal(moves: &RelativeMoves, way: V3, k: usize) -> V3
         2 => cross(edge(moves, 1), edge(moves, 3)),
         _ => cross(edge(moves, 2), edge(moves, 3)),
     };
-    shrunk(towards(across, way))
+    shrunk(towards(across, centres))
 }
 
 // How many edges there are to try.
@@ -52,12 +54,12 @@ pub fn edge_count(moves: &RelativeMoves) -> usize {
     }
 }
 
-// What is left of the way across an edge: the vector in the plane of both that is upright on the edge.
-pub fn upright_way(moves: &RelativeMoves, way: V3, k: usize) -> V3
-    ensures { Within (2 ^ 30) result }
+// What is left of the difference of centres across an edge: a vector at a right angle to the edge.
+pub fn perpendicular(moves: &RelativeMoves, centres: V3, k: usize) -> V3
+    ensures { Within VECTOR_LIMIT result }
 {
     let edge = shrunk(edge(moves, k));
-    shrunk(cross(edge, shrunk(cross(way, edge))))
+    shrunk(cross(edge, shrunk(cross(centres, edge))))
 }
 
 // The edge of a part, from the points of the other as they see it.
@@ -77,9 +79,9 @@ fn halfway(moves: &RelativeMoves, i: usize) -> V3
     plus(m.start, m.end)
 }
 
-// The vector or its opposite, which doesn't go against the way.
-fn towards(n: V3, way: V3) -> V3 {
-    if product(n, way) < 0 {
+// The vector or its opposite, on the side of the difference of centres.
+fn towards(n: V3, centres: V3) -> V3 {
+    if product(n, centres) < 0 {
         minus(V3 { x: 0, y: 0, z: 0 }, n)
     } else {
         n
@@ -88,10 +90,10 @@ fn towards(n: V3, way: V3) -> V3 {
 
 // The vector, halved until it is small enough.
 fn shrunk(n: V3) -> V3
-    ensures { Within (2 ^ 30) result }
+    ensures { Within VECTOR_LIMIT result }
 {
     let size = n.x.unsigned_abs() | n.y.unsigned_abs() | n.z.unsigned_abs();
-    let half = 34u32.saturating_sub(size.leading_zeros());
+    let half = SPARE_BITS.saturating_sub(size.leading_zeros());
     V3 {
         x: cut(n.x, half),
         y: cut(n.y, half),
@@ -101,9 +103,10 @@ fn shrunk(n: V3) -> V3
 
 fn cut(a: i64, half: u32) -> i64
     requires { half < 64 }
-    ensures { AtMost (2 ^ 30) result }
+    ensures { AtMost VECTOR_LIMIT result }
 {
-    (a >> half).clamp(-MOST, MOST)
+    let most = i64::from(VECTOR_LIMIT);
+    (a >> half).clamp(-most, most)
 }
 
 fn plus(a: V3, b: V3) -> V3 {

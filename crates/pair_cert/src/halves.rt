@@ -1,6 +1,7 @@
 //! The halves of an interval.
 ghost use Rattle.std.specs.Prelude.{◌≡◌, ◌^◌, ◌<◌, ◌≤◌, pos, ◌+ℤ◌, ◌*ℤ◌, All, map};
 ghost use Rattle.space3.specs.Vectors.{AtMost, Within, multiple, sum_of};
+ghost use Rattle.plane_cut.specs.declared.planes.TheConstants.{COMPONENT_LIMIT};
 ghost use Rattle.pair_cert.specs.Calls.Moves.{HasRoom};
 ghost use Rattle.pair_cert.specs.Calls.Halves.{half_of, moves_in};
 
@@ -9,7 +10,7 @@ use safe_motion::Move;
 use space3::V3;
 
 // The moves in one half of their interval, times 2.
-pub fn halves(moves: &RelativeMoves, half: Half) -> RelativeMoves
+pub fn half_moves(moves: &RelativeMoves, half: Half) -> RelativeMoves
     requires { All (HasRoom 1) (moves_in moves.now) }
     ensures { moves_in result ≡ map (half_of half) (moves_in moves.now) }
 {
@@ -41,15 +42,15 @@ fn half_move(m: Move, half: Half) -> Move
 }
 
 fn double(a: V3) -> V3
-    requires { Within (2 ^ 30) (multiple (pos 2) a) }
+    requires { Within COMPONENT_LIMIT (multiple (pos 2) a) }
     ensures { result ≡ multiple (pos 2) a }
 {
     sum(a, a)
 }
 
 fn sum(a: V3, b: V3) -> V3
-    requires left { Within (2 ^ 29) a }
-    requires right { Within (2 ^ 29) b }
+    requires left { Within COMPONENT_LIMIT a }
+    requires right { Within COMPONENT_LIMIT b }
     ensures { result ≡ sum_of a b }
 {
     V3 {
@@ -60,8 +61,8 @@ fn sum(a: V3, b: V3) -> V3
 }
 
 fn plus(a: i64, b: i64) -> i64
-    requires left { AtMost (2 ^ 29) a }
-    requires right { AtMost (2 ^ 29) b }
+    requires left { AtMost COMPONENT_LIMIT a }
+    requires right { AtMost COMPONENT_LIMIT b }
     ensures { result ≡ a +ℤ b }
 {
     a + b

@@ -4,10 +4,12 @@
 #![tactic(auto)]
 
 mod certificate;
+mod corners;
 mod guesses;
 mod halves;
 mod moves;
 mod planes;
 mod relative;
+mod swept_boxes;
 
 pub use certificate::certify_pair;

@@ -1,14 +1,16 @@
 //! Whether one vector separates two parts at both ends of an interval.
 ghost use Rattle.std.specs.Prelude.{◌≡◌, ◌*◌, ◌^◌, ◌<◌, ◌≤◌, ◌↔◌, pos, ◌<ℤ◌, IsTrue, All, take};
 ghost use Rattle.space3.specs.Vectors.{Within, dot_product};
+ghost use Rattle.space3.specs.declared.vectors.TheConstants.{VECTOR_LIMIT};
+ghost use Rattle.plane_cut.specs.declared.planes.TheConstants.{COMPONENT_LIMIT};
 ghost use Rattle.plane_cut.specs.Planes.{HasPlane};
 ghost use Rattle.pair_cert.specs.Calls.Moves.{IsAhead, IsShort, all_ends};
 ghost use Rattle.pair_cert.specs.Calls.Halves.{moves_in};
 ghost use Rattle.pair_cert.specs.Tallies.{RisesAtMost};
 
-use crate::guesses::{centre_way, edge_count, normal, normal_count, upright_way};
+use crate::guesses::{centre_difference, edge_count, normal, normal_count, perpendicular};
 use crate::moves::RelativeMoves;
-use plane_cut::{Tally, has_plane};
+use plane_cut::{ROW_LIMIT, Tally, has_plane};
 use safe_motion::Move;
 use space3::{V3, dot};
 
@@ -20,44 +22,44 @@ pub fn has_plane_throughout(moves: &RelativeMoves, tally: &mut Tally) -> bool
     ensures tally { RisesAtMost 1 tally.old.n tally.new.n }
 {
     let _count = tally.n;
-    if is_guessed(moves) {
+    if is_plane_guessed(moves) {
         return true;
     }
     has_plane(&ends(moves), 2 * moves.count as u8, tally)
 }
 
 // Whether one of the guessed vectors serves. No says nothing.
-fn is_guessed(moves: &RelativeMoves) -> bool
+fn is_plane_guessed(moves: &RelativeMoves) -> bool
     requires { All IsShort (moves_in moves.now) }
     ensures { IsTrue result → HasPlane (all_ends (moves_in moves.now)) }
 {
-    let way = centre_way(moves);
-    if are_ahead(way, moves) {
+    let centres = centre_difference(moves);
+    if serves(centres, moves) {
         return true;
     }
-    is_normal_ahead(moves, way) || is_upright_ahead(moves, way)
+    serves_some_normal(moves, centres) || serves_some_perpendicular(moves, centres)
 }
 
 // Whether a cross product of two edges serves.
-fn is_normal_ahead(moves: &RelativeMoves, way: V3) -> bool
+fn serves_some_normal(moves: &RelativeMoves, centres: V3) -> bool
     requires { All IsShort (moves_in moves.now) }
     ensures { IsTrue result → HasPlane (all_ends (moves_in moves.now)) }
 {
     for k in 0..normal_count(moves) {
-        if are_ahead(normal(moves, way, k), moves) {
+        if serves(normal(moves, centres, k), moves) {
             return true;
         }
     }
     false
 }
 
-// Whether the way serves without its part along an edge.
-fn is_upright_ahead(moves: &RelativeMoves, way: V3) -> bool
+// Whether the difference of centres serves without its part along an edge.
+fn serves_some_perpendicular(moves: &RelativeMoves, centres: V3) -> bool
     requires { All IsShort (moves_in moves.now) }
     ensures { IsTrue result → HasPlane (all_ends (moves_in moves.now)) }
 {
     for k in 0..edge_count(moves) {
-        if are_ahead(upright_way(moves, way, k), moves) {
+        if serves(perpendicular(moves, centres, k), moves) {
             return true;
         }
     }
@@ -65,8 +67,8 @@ fn is_upright_ahead(moves: &RelativeMoves, way: V3) -> bool
 }
 
 // Whether the vector has a positive product with each move at both ends.
-fn are_ahead(n: V3, moves: &RelativeMoves) -> bool
-    requires normal { Within (2 ^ 30) n }
+fn serves(n: V3, moves: &RelativeMoves) -> bool
+    requires normal { Within VECTOR_LIMIT n }
     requires short { All IsShort (moves_in moves.now) }
     ensures { IsTrue result ↔ All (IsAhead n) (moves_in moves.now) }
 {
@@ -79,7 +81,7 @@ fn are_ahead(n: V3, moves: &RelativeMoves) -> bool
 }
 
 fn is_ahead(n: V3, m: Move) -> bool
-    requires normal { Within (2 ^ 30) n }
+    requires normal { Within VECTOR_LIMIT n }
     requires short { IsShort m }
     ensures { IsTrue result ↔ IsAhead n m }
 {
@@ -88,18 +90,18 @@ fn is_ahead(n: V3, m: Move) -> bool
 
 // Whether the product is positive.
 fn is_past(n: V3, a: V3) -> bool
-    requires normal { Within (2 ^ 30) n }
-    requires short { Within (2 ^ 29) a }
+    requires normal { Within VECTOR_LIMIT n }
+    requires short { Within COMPONENT_LIMIT a }
     ensures { IsTrue result ↔ pos 0 <ℤ dot_product n a }
 {
     dot(n, a) > 0
 }
 
 // The ends of the moves as rows of a plane decision.
-fn ends(moves: &RelativeMoves) -> [V3; 16]
+fn ends(moves: &RelativeMoves) -> [V3; ROW_LIMIT]
     ensures { take (2 * moves.now.count) result ≡ all_ends (moves_in moves.now) }
 {
-    let mut rows = [V3 { x: 0, y: 0, z: 0 }; 16];
+    let mut rows = [V3 { x: 0, y: 0, z: 0 }; ROW_LIMIT];
     for i in 0..moves.count {
         rows[2 * i] = moves.at[i].start;
         rows[2 * i + 1] = moves.at[i].end;

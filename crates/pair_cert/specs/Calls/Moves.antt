@@ -3,6 +3,8 @@ use Rattle.std.specs.Prelude.{ℕ, ◌+◌, ◌^◌, pos, ◌<ℤ◌, List, [], 
 use Rattle.std.specs.List.{flat_map}
 use Rattle.space3.specs.declared.vectors.V3.{V3}
 use Rattle.space3.specs.Vectors.{Within, difference, dot_product, multiple}
+use Rattle.space3.specs.Box.{IsInTheBox}
+use Rattle.plane_cut.specs.declared.planes.TheConstants.{COMPONENT_LIMIT}
 use Rattle.safe_motion.specs.declared.motion.Move.{Move}
 use Rattle.safe_motion.specs.Moments.{place_at}
 
@@ -35,18 +37,18 @@ all_ends moves = flat_map ends_of moves
 
 -- both ends are in the box
 pub record IsNear (m : Move) : Type 0 where
-  pub start : Within (2 ^ 20) m.start
-  pub end : Within (2 ^ 20) m.end
+  pub start : IsInTheBox m.start
+  pub end : IsInTheBox m.end
 
 -- both ends are short enough for a row of a plane decision
 pub record IsShort (m : Move) : Type 0 where
-  pub start : Within (2 ^ 29) m.start
-  pub end : Within (2 ^ 29) m.end
+  pub start : Within COMPONENT_LIMIT m.start
+  pub end : Within COMPONENT_LIMIT m.end
 
 -- both ends are so after as many halvings, each of which doubles them
 pub record HasRoom (depth : ℕ) (m : Move) : Type 0 where
-  pub start : Within (2 ^ 29) (multiple (pos (2 ^ depth)) m.start)
-  pub end : Within (2 ^ 29) (multiple (pos (2 ^ depth)) m.end)
+  pub start : Within COMPONENT_LIMIT (multiple (pos (2 ^ depth)) m.start)
+  pub end : Within COMPONENT_LIMIT (multiple (pos (2 ^ depth)) m.end)
 
 -- the move starts and ends on the side of n
 pub record IsAhead (n : V3) (m : Move) : Type 0 where

@@ -29,22 +29,22 @@ returns-then-depth-eq0-clause-certificate t c = λ xs ys j n e.
     ends_without (IsServed xs ys) c.args.depth j n c.if-depth-eq0.true
     (not_served xs ys j n (moves_in c.args.moves.now) c.has_plane_throughout.result c.has_plane_throughout.ensures.plane c.if-has_plane_throughout.false e)
 
-pub halves-requires : goal.halves-requires
-halves-requires t c = room_for_one c.args.depth (moves_in c.args.moves.now) c.if-depth-eq0.false c.requires
+pub half_moves-requires : goal.half_moves-requires
+half_moves-requires t c = room_for_one c.args.depth (moves_in c.args.moves.now) c.if-depth-eq0.false c.requires
 
 pub is_certified-requires : goal.is_certified-requires
 is_certified-requires t c = (
   search rules,
-  subst (All (HasRoom (c.args.depth - 1))) (sym c.halves.ensures) (halves_room c.args.depth First (moves_in c.args.moves.now) c.if-depth-eq0.false c.requires),
+  subst (All (HasRoom (c.args.depth - 1))) (sym c.half_moves.ensures) (halves_room c.args.depth First (moves_in c.args.moves.now) c.if-depth-eq0.false c.requires),
 )
 
-pub halves-requires-then-is_certified : goal.halves-requires-then-is_certified
-halves-requires-then-is_certified t c = room_for_one c.args.depth (moves_in c.args.moves.now) c.if-depth-eq0.false c.requires
+pub half_moves-requires-then-is_certified : goal.half_moves-requires-then-is_certified
+half_moves-requires-then-is_certified t c = room_for_one c.args.depth (moves_in c.args.moves.now) c.if-depth-eq0.false c.requires
 
 pub is_certified-requires-then-is_certified : goal.is_certified-requires-then-is_certified
 is_certified-requires-then-is_certified t c = (
   search rules,
-  subst (All (HasRoom (c.args.depth - 1))) (sym c.halves-then-is_certified.ensures) (halves_room c.args.depth Second (moves_in c.args.moves.now) c.if-depth-eq0.false c.requires),
+  subst (All (HasRoom (c.args.depth - 1))) (sym c.half_moves-then-is_certified.ensures) (halves_room c.args.depth Second (moves_in c.args.moves.now) c.if-depth-eq0.false c.requires),
 )
 
 pub returns-then-is_certified-clause-certificate : goal.returns-then-is_certified-clause-certificate
@@ -52,8 +52,8 @@ returns-then-is_certified-clause-certificate t c = λ xs ys j n e.
     second_decides (IsServed xs ys) c.args.depth (c.args.depth - 1) j n c.is_certified.result c.is_certified-then-is_certified.result (less c.args.depth c.if-depth-eq0.false)
     (not_served xs ys j n (moves_in c.args.moves.now) c.has_plane_throughout.result c.has_plane_throughout.ensures.plane c.if-has_plane_throughout.false e)
     c.if-is_certified.true
-    (c.is_certified.ensures.certificate xs ys (2 * j) (2 * n) (c.halves.ensures ∙ ap (map (half_of First)) e ∙ moves-first_half xs ys j n))
-    (c.is_certified-then-is_certified.ensures.certificate xs ys (2 * j + 1) (2 * n) (c.halves-then-is_certified.ensures ∙ ap (map (half_of Second)) e ∙ moves-second_half xs ys j n))
+    (c.is_certified.ensures.certificate xs ys (2 * j) (2 * n) (c.half_moves.ensures ∙ ap (map (half_of First)) e ∙ moves-first_half xs ys j n))
+    (c.is_certified-then-is_certified.ensures.certificate xs ys (2 * j + 1) (2 * n) (c.half_moves-then-is_certified.ensures ∙ ap (map (half_of Second)) e ∙ moves-second_half xs ys j n))
 
 pub returns-then-is_certified-clause-tally : goal.returns-then-is_certified-clause-tally
 returns-then-is_certified-clause-tally t c =
@@ -66,7 +66,7 @@ returns-else-is_certified-clause-certificate t c = λ xs ys j n e.
     first_decides (IsServed xs ys) c.args.depth (c.args.depth - 1) j n c.is_certified.result (less c.args.depth c.if-depth-eq0.false)
     (not_served xs ys j n (moves_in c.args.moves.now) c.has_plane_throughout.result c.has_plane_throughout.ensures.plane c.if-has_plane_throughout.false e)
     c.if-is_certified.false
-    (c.is_certified.ensures.certificate xs ys (2 * j) (2 * n) (c.halves.ensures ∙ ap (map (half_of First)) e ∙ moves-first_half xs ys j n))
+    (c.is_certified.ensures.certificate xs ys (2 * j) (2 * n) (c.half_moves.ensures ∙ ap (map (half_of First)) e ∙ moves-first_half xs ys j n))
 
 pub returns-else-is_certified-clause-tally : goal.returns-else-is_certified-clause-tally
 returns-else-is_certified-clause-tally t c =

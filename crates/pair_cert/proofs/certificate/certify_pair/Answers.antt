@@ -1,4 +1,5 @@
 use Rattle.std.proofs.Common.{◌≡◌, ◌∙◌, refl, arith}
+use Rattle.safe_motion.specs.declared.depth.TheConstants.{DEPTH}
 use Rattle.safe_motion.specs.Certificates.{IsServed}
 use Rattle.safe_motion.proofs.Certified.{certified_apart}
 use Rattle.safe_motion.proofs.HalfIntervals.{served_inherited}
@@ -10,27 +11,27 @@ use Rattle.pair_cert.proofs.Searches.{untouched}
 use Rattle.pair_cert.proofs.Tallies.{stays}
 use Rattle.pair_cert.proofs.certificate.certify_pair.Goals as goal
 
-pub returns-then-not-do_boxes_touch-clause-certificate : goal.returns-then-not-do_boxes_touch-clause-certificate
-returns-then-not-do_boxes_touch-clause-certificate c =
+pub returns-then-not-do_swept_boxes_touch-clause-certificate : goal.returns-then-not-do_swept_boxes_touch-clause-certificate
+returns-then-not-do_swept_boxes_touch-clause-certificate c =
     let xs = moves_of c.args.a.now in
     let ys = moves_of c.args.b.now in
-    (λ t. untouched_is_certified xs ys (untouched xs ys c.do_boxes_touch.result c.do_boxes_touch.ensures c.if-not-do_boxes_touch.true) 8, λ h. refl)
+    (λ t. untouched_is_certified xs ys (untouched xs ys c.do_swept_boxes_touch.result c.do_swept_boxes_touch.ensures c.if-not-do_swept_boxes_touch.true) DEPTH, λ h. refl)
 
-pub returns-then-not-do_boxes_touch-clause-apart : goal.returns-then-not-do_boxes_touch-clause-apart
-returns-then-not-do_boxes_touch-clause-apart c =
+pub returns-then-not-do_swept_boxes_touch-clause-apart : goal.returns-then-not-do_swept_boxes_touch-clause-apart
+returns-then-not-do_swept_boxes_touch-clause-apart c =
     let xs = moves_of c.args.a.now in
     let ys = moves_of c.args.b.now in
-    λ t. certified_apart 8 xs ys (untouched_is_certified xs ys (untouched xs ys c.do_boxes_touch.result c.do_boxes_touch.ensures c.if-not-do_boxes_touch.true) 8)
+    λ t. certified_apart DEPTH xs ys (untouched_is_certified xs ys (untouched xs ys c.do_swept_boxes_touch.result c.do_swept_boxes_touch.ensures c.if-not-do_swept_boxes_touch.true) DEPTH)
 
-pub returns-then-not-do_boxes_touch-clause-tally : goal.returns-then-not-do_boxes_touch-clause-tally
-returns-then-not-do_boxes_touch-clause-tally c = stays _ c.args.tally.now.n (omega arith)
+pub returns-then-not-do_swept_boxes_touch-clause-tally : goal.returns-then-not-do_swept_boxes_touch-clause-tally
+returns-then-not-do_swept_boxes_touch-clause-tally c = stays _ c.args.tally.now.n (omega arith)
 
 pub returns-clause-certificate : goal.returns-clause-certificate
 returns-clause-certificate c =
     let xs = moves_of c.args.a.now in
     let ys = moves_of c.args.b.now in
     let decided = c.is_certified.ensures.certificate xs ys 0 1 (c.relative_moves.ensures.moves ∙ moves-whole xs ys) in
-    (λ h. each_from_halves (IsServed xs ys) (served_inherited xs ys) 8 (decided.0 h), λ h. decided.1 (halves_from_each (IsServed xs ys) 8 h))
+    (λ h. each_from_halves (IsServed xs ys) (served_inherited xs ys) DEPTH (decided.0 h), λ h. decided.1 (halves_from_each (IsServed xs ys) DEPTH h))
 
 pub returns-clause-apart : goal.returns-clause-apart
-returns-clause-apart c = λ h. certified_apart 8 (moves_of c.args.a.now) (moves_of c.args.b.now) ((returns-clause-certificate c).0 h)
+returns-clause-apart c = λ h. certified_apart DEPTH (moves_of c.args.a.now) (moves_of c.args.b.now) ((returns-clause-certificate c).0 h)

@@ -3,7 +3,7 @@ use Rattle.pair_cert.specs.Calls.Moves.{IsAhead}
 use Rattle.pair_cert.specs.Parts.{still}
 use Rattle.list_laws.proofs.Elements.{All-take_at, All-take_less}
 use Rattle.pair_cert.proofs.Lists.{All-taken_more}
-use Rattle.pair_cert.proofs.planes.are_ahead.Goals as goal
+use Rattle.pair_cert.proofs.planes.serves.Goals as goal
 
 pub returns-then-not-is_ahead : goal.returns-then-not-is_ahead
 returns-then-not-is_ahead c =

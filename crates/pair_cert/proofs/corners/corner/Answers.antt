@@ -1,6 +1,6 @@
 use Rattle.std.proofs.Common.{◌≡◌, length, rules}
-use Rattle.pair_cert.proofs.Corners.{corner-is, corner_near}
-use Rattle.pair_cert.proofs.relative.corner.Goals as goal
+use Rattle.pair_cert.proofs.CornerMoves.{corner-is, corner_near}
+use Rattle.pair_cert.proofs.corners.corner.Goals as goal
 
 pub returns-clause-value : goal.returns-clause-value
 returns-clause-value c =

@@ -1,0 +1,6 @@
+use Rattle.pair_cert.specs.Calls.Halves.{moves_in}
+use Rattle.pair_cert.proofs.Separations.{plane_of_ends}
+use Rattle.pair_cert.proofs.planes.is_plane_guessed.Goals as goal
+
+pub returns-then-serves : goal.returns-then-serves
+returns-then-serves c = λ t. (c.centre_difference-centres.result, plane_of_ends c.centre_difference-centres.result (moves_in c.args.moves.now) (c.serves.ensures.0 c.if-serves.true))
