@@ -18,14 +18,14 @@ pub enum Cone {
 }
 
 /// The cone of one more row, or None where no plane serves that row too.
-pub fn narrowed(cone: Cone, row: Flat) -> Option<Cone>
+pub fn narrowed_cone(cone: Cone, row: Flat) -> Option<Cone>
     requires { IsCone cone }
     ensures { NarrowsOrNone cone (λ n. pos 0 <ℤ dot_product n (as_row row)) result }
 {
     match cone {
         Cone::Empty => ray(row),
-        Cone::Ray(only) => opened(only, row),
-        Cone::Wedge(low, high) => widened(low, high, row),
+        Cone::Ray(only) => opened_ray(only, row),
+        Cone::Wedge(low, high) => widened_wedge(low, high, row),
     }
 }
 
@@ -39,7 +39,7 @@ fn ray(row: Flat) -> Option<Cone>
     }
 }
 
-fn opened(only: Flat, row: Flat) -> Option<Cone>
+fn opened_ray(only: Flat, row: Flat) -> Option<Cone>
     requires { IsCone (Cone.Ray only) }
     ensures { NarrowsOrNone (Cone.Ray only) (λ n. pos 0 <ℤ dot_product n (as_row row)) result }
 {
@@ -48,16 +48,17 @@ fn opened(only: Flat, row: Flat) -> Option<Cone>
         Some(Cone::Wedge(only, row))
     } else if left < 0 {
         Some(Cone::Wedge(row, only))
-    } else if scalar(only, row).raw() > 0 {
+    } else if scalar_product(only, row).raw() > 0 {
         Some(Cone::Ray(only))
     } else {
         None
     }
 }
 
-fn widened(low: Flat, high: Flat, row: Flat) -> Option<Cone>
+fn widened_wedge(low: Flat, high: Flat, row: Flat) -> Option<Cone>
     requires { IsCone (Cone.Wedge low high) }
-    ensures { NarrowsOrNone (Cone.Wedge low high) (λ n. pos 0 <ℤ dot_product n (as_row row)) result }
+    ensures { NarrowsOrNone (Cone.Wedge low high)
+        (λ n. pos 0 <ℤ dot_product n (as_row row)) result }
 {
     let from_low = turn(low, row).raw();
     let to_high = turn(row, high).raw();
@@ -79,38 +80,18 @@ fn widened(low: Flat, high: Flat, row: Flat) -> Option<Cone>
 }
 
 /// How far b lies to the left of a: what is left of both rows when the second variable is eliminated.
-fn turn(a: Flat, b: Flat) -> Q<0, 120>
+fn turn(a: Flat, b: Flat) -> Q<0, 123>
     ensures { result.raw ≡ turn_of (as_row a) (as_row b) }
 {
-    product(a.x, b.y).sub_into(product(a.y, b.x))
+    let left: Q<0, 122> = a.x.mul_into(b.y);
+    let right: Q<0, 122> = a.y.mul_into(b.x);
+    left.sub_into(right)
 }
 
-fn scalar(a: Flat, b: Flat) -> Q<0, 120>
+fn scalar_product(a: Flat, b: Flat) -> Q<0, 123>
     ensures { result.raw ≡ a.x.raw *ℤ b.x.raw +ℤ a.y.raw *ℤ b.y.raw }
 {
-    product(a.x, b.x).add_into(product(a.y, b.y))
-}
-
-fn product(a: Q<0, 60>, b: Q<0, 60>) -> Q<0, 119>
-    requires left { unsigned_abs a.raw ≤ 2 ^ 59 }
-    requires right { unsigned_abs b.raw ≤ 2 ^ 59 }
-    ensures { result.raw ≡ a.raw *ℤ b.raw }
-{
-    times(short(a), short(b))
-}
-
-fn times(a: i64, b: i64) -> Q<0, 119>
-    requires left { unsigned_abs a ≤ 2 ^ 59 }
-    requires right { unsigned_abs b ≤ 2 ^ 59 }
-    ensures { result.raw ≡ a *ℤ b }
-{
-    Q::of_raw(a as i128 * b as i128)
-}
-
-/// The raw number, which has at most 60 bits: a product of such numbers is one instruction.
-fn short(a: Q<0, 60>) -> i64
-    requires { unsigned_abs a.raw ≤ 2 ^ 59 }
-    ensures { result ≡ a.raw }
-{
-    a.raw() as i64
+    let first: Q<0, 122> = a.x.mul_into(b.x);
+    let second: Q<0, 122> = a.y.mul_into(b.y);
+    first.add_into(second)
 }

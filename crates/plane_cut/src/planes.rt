@@ -5,7 +5,7 @@ ghost use Rattle.plane_cut.specs.Planes.{HasPlane};
 ghost use Rattle.plane_cut.specs.Calls.Elimination.{combined, flattened, ServesFlat, ServesPair, ServesPairs};
 ghost use Rattle.plane_cut.specs.Calls.Cones.{as_row, IsCone, NarrowsOrNone};
 
-use crate::cones::{Cone, narrowed};
+use crate::cones::{Cone, narrowed_cone};
 use crate::rows::Flat;
 use num_q::Q;
 use space3::V3;
@@ -14,7 +14,7 @@ use space3::V3;
 pub const ROW_LIMIT: usize = 16;
 
 /// The greatest absolute value of a component of a row, 2^29: a difference of two points at the finest scale. So an
-/// eliminated row fits 60 bits, and a turn of two of these 120.
+/// eliminated row has at most 61 bits, and a turn of two of these 123.
 pub const COMPONENT_LIMIT: u32 = 536_870_912;
 
 /// Counts plane decisions. A count that stands at its last value stays there.
@@ -50,7 +50,8 @@ fn with_all_pairs(start: Cone, rows: &[V3; ROW_LIMIT], count: usize) -> Option<C
     requires start { IsCone start }
     requires few { count ≤ ROW_LIMIT }
     requires range { All (Within COMPONENT_LIMIT) (take count rows.now) }
-    ensures { NarrowsOrNone start (λ n. All (ServesPairs n (take count rows.now)) (take count rows.now)) result }
+    ensures { let given = take count rows.now in
+        NarrowsOrNone start (λ n. All (ServesPairs n given) given) result }
 {
     let mut cone = start;
     for i in 0..count {
@@ -74,7 +75,7 @@ fn with_pairs(start: Cone, p: V3, rows: &[V3; ROW_LIMIT], count: usize) -> Optio
     for i in 0..count {
         let q = rows[i];
         if q.z < 0 {
-            cone = narrowed(cone, combination(p, q))?;
+            cone = narrowed_cone(cone, combination(p, q))?;
         }
     }
     Some(cone)
@@ -90,7 +91,7 @@ fn with_flats(rows: &[V3; ROW_LIMIT], count: usize) -> Option<Cone>
     for i in 0..count {
         let row = rows[i];
         if row.z == 0 {
-            cone = narrowed(cone, flat(row))?;
+            cone = narrowed_cone(cone, flat_row(row))?;
         }
     }
     Some(cone)
@@ -108,7 +109,7 @@ fn combination(p: V3, q: V3) -> Flat
     }
 }
 
-fn flat(row: V3) -> Flat
+fn flat_row(row: V3) -> Flat
     requires { Within COMPONENT_LIMIT row }
     ensures { as_row result ≡ flattened row }
 {
@@ -119,22 +120,21 @@ fn flat(row: V3) -> Flat
 }
 
 /// The minor `a·d − b·c`.
-fn minor(a: i64, b: i64, c: i64, d: i64) -> Q<0, 60>
+fn minor(a: i64, b: i64, c: i64, d: i64) -> Q<0, 61>
     requires top_left { AtMost COMPONENT_LIMIT a }
     requires top_right { AtMost COMPONENT_LIMIT b }
     requires low_left { AtMost COMPONENT_LIMIT c }
     requires low_right { AtMost COMPONENT_LIMIT d }
-    ensures value { result.raw ≡ a *ℤ d -ℤ b *ℤ c }
-    ensures bound { unsigned_abs result.raw ≤ 2 ^ 59 }
+    ensures { result.raw ≡ a *ℤ d -ℤ b *ℤ c }
 {
-    times(a, d).sub_into(times(b, c))
+    let left: Q<0, 60> = component(a).mul_into(component(d));
+    let right: Q<0, 60> = component(b).mul_into(component(c));
+    left.sub_into(right)
 }
 
-fn times(a: i64, b: i64) -> Q<0, 59>
-    requires left { AtMost COMPONENT_LIMIT a }
-    requires right { AtMost COMPONENT_LIMIT b }
-    ensures value { result.raw ≡ a *ℤ b }
-    ensures bound { unsigned_abs result.raw ≤ 2 ^ 58 }
+fn component(a: i64) -> Q<0, 30>
+    requires { AtMost COMPONENT_LIMIT a }
+    ensures { result.raw ≡ a }
 {
-    Q::of_raw(a as i128 * b as i128)
+    Q::of_raw(a as i128)
 }

@@ -1,7 +1,7 @@
 use Rattle.std.proofs.Common.{pos, ◌<ℤ◌, ◌≤ℤ◌, ℤ, arith, subst, ◌∙◌}
 use Rattle.std.proofs.lemmas.Int.{ints}
 use Rattle.plane_cut.proofs.RaysAndWedges.{widens_high, widens_low, stays_left, stays_right, no_wedge}
-use Rattle.plane_cut.proofs.cones.widened.Goals as goal
+use Rattle.plane_cut.proofs.cones.widened_wedge.Goals as goal
 
 pub returns-then-to_high-lt0 : goal.returns-then-to_high-lt0
 returns-then-to_high-lt0 c =

@@ -1,7 +1,7 @@
 use Rattle.std.proofs.Common.{◌≡◌, pos, ◌<ℤ◌, ◌≤ℤ◌, ℤ, arith, subst, sym, ◌∙◌}
 use Rattle.std.proofs.lemmas.Int.{ints}
 use Rattle.plane_cut.proofs.RaysAndWedges.{opens_left, opens_right, stays_ray, no_ray}
-use Rattle.plane_cut.proofs.cones.opened.Goals as goal
+use Rattle.plane_cut.proofs.cones.opened_ray.Goals as goal
 
 pub returns-then-left-gt0 : goal.returns-then-left-gt0
 returns-then-left-gt0 c =
@@ -17,10 +17,10 @@ pub returns-then-raw-gt0 : goal.returns-then-raw-gt0
 returns-then-raw-gt0 c =
     let e : c.raw-left.result ≡ pos 0 = omega (arith, ints) in
     let h : pos 0 <ℤ c.raw.result = omega (arith, ints) in
-    stays_ray c.args.only c.args.row c.requires (sym (c.raw-left.ensures ∙ c.turn.ensures) ∙ e) (subst (λ (z : ℤ). pos 0 <ℤ z) (c.raw.ensures ∙ c.scalar.ensures) h)
+    stays_ray c.args.only c.args.row c.requires (sym (c.raw-left.ensures ∙ c.turn.ensures) ∙ e) (subst (λ (z : ℤ). pos 0 <ℤ z) (c.raw.ensures ∙ c.scalar_product.ensures) h)
 
 pub returns-else-raw-gt0 : goal.returns-else-raw-gt0
 returns-else-raw-gt0 c =
     let e : c.raw-left.result ≡ pos 0 = omega (arith, ints) in
     let h : c.raw.result ≤ℤ pos 0 = omega (arith, ints) in
-    no_ray c.args.only c.args.row c.requires (sym (c.raw-left.ensures ∙ c.turn.ensures) ∙ e) (subst (λ (z : ℤ). z ≤ℤ pos 0) (c.raw.ensures ∙ c.scalar.ensures) h)
+    no_ray c.args.only c.args.row c.requires (sym (c.raw-left.ensures ∙ c.turn.ensures) ∙ e) (subst (λ (z : ℤ). z ≤ℤ pos 0) (c.raw.ensures ∙ c.scalar_product.ensures) h)
