@@ -1,5 +1,5 @@
 -- Two lists of points meet exactly where no plane serves all their differences.
-use Rattle.std.proofs.Common.{◌≡◌, ℕ, ◌+◌, ◌*◌, ◌<◌, ◌≤◌, ◌^◌, ℤ, pos, negsuc, ◌+ℤ◌, ◌-ℤ◌, ◌*ℤ◌, ◌<ℤ◌, List, [], ◌∷◌, ◌++◌, ◌⊎◌, inl, inr, length, refl, sym, ◌∙◌, ap, subst, arith, unsigned_abs, IsTrue, lit≤}
+use Rattle.std.proofs.Common.{◌≡◌, ℕ, ◌+◌, ◌*◌, ◌<◌, ◌^◌, ℤ, pos, negsuc, ◌+ℤ◌, ◌-ℤ◌, ◌*ℤ◌, ◌<ℤ◌, List, [], ◌∷◌, ◌++◌, ◌⊎◌, inl, inr, length, refl, sym, ◌∙◌, ap, subst, arith, IsTrue, lit≤}
 use Rattle.std.proofs.lemmas.Int.{ints}
 use Rattle.std.specs.Prelude.{◌↔◌}
 use Rattle.std.proofs.Common.{take, set, get_or, append_assoc, Bool, true, false, not}
@@ -14,7 +14,6 @@ use Rattle.safe_motion.specs.Meeting.{Meets, Separates}
 use Rattle.space3.proofs.Bounds.{within-difference}
 use Rattle.list_laws.proofs.Elements.{All-map_back, All-append_left, All-append_right}
 use Rattle.whole_laws.proofs.Ring.{ring, v, ◌⊕◌, ◌⊗◌}
-use Rattle.whole_laws.proofs.Order.{size_diff}
 use Rattle.plane_cut.specs.Planes.{HasPlane}
 use Rattle.plane_cut.specs.Calls.Differences.{differences, differences_from}
 use Rattle.plane_cut.proofs.Linear.{mixed, same_vector}

@@ -11,7 +11,6 @@ use space3::{FINE_LIMIT, SPOT_LIMIT, Spot, V3, sub};
 /// The most points of the first spot: a pair is of a vertex or an edge with something.
 pub const FIRST_LIMIT: u8 = 2;
 
-
 /// Whether the two convex hulls have a common point: non-negative weights on both spots, with equal
 /// positive sums, have equal weighted sums. The first spot has at most 2 points. Components are at
 /// most [`FINE_LIMIT`] in absolute value. The tally rises by one.
