@@ -4,7 +4,7 @@ use Rattle.std.specs.Prelude.{◌≡◌, ◌⊎◌, ◌==◌, ◌||◌, ◌&&◌
 use Rattle.std.specs.List.{enumerate_from, slice_split}
 use Rattle.std.specs.Str.{all_ascii_digits}
 use Rattle.std.specs.Str.Parse.{digits_value}
-use Rattle.line_fields.specs.declared.numbers.TheConstants.{MOST_DIGITS, MOST_WHOLE}
+use Rattle.line_fields.specs.declared.numbers.TheConstants.{DIGIT_LIMIT, WHOLE_LIMIT}
 
 -- space, tab and carriage return
 abbrev pub is_blank : ℕ → Bool
@@ -58,7 +58,7 @@ numbered text = numbered_from 1 text
 
 -- ASCII digits, at least one and at most ten
 abbrev pub is_unsigned : List ℕ → Bool
-is_unsigned field = is_filled field && nat_le (length field) MOST_DIGITS && all_ascii_digits field
+is_unsigned field = is_filled field && nat_le (length field) DIGIT_LIMIT && all_ascii_digits field
 
 -- the number that one to ten digits write, with leading zeros or without
 unfoldable pub unsigned_of : List ℕ → Option ℕ
@@ -66,7 +66,7 @@ unsigned_of field = if is_unsigned field then Some (digits_value 10 field) else 
 
 -- one to ten ASCII digits of a whole number, which is below 2^31
 unfoldable pub is_whole : List ℕ → Bool
-is_whole field = is_unsigned field && nat_le (digits_value 10 field) MOST_WHOLE
+is_whole field = is_unsigned field && nat_le (digits_value 10 field) WHOLE_LIMIT
 
 -- the whole number that a field is
 unfoldable pub whole_of : List ℕ → Option ℕ

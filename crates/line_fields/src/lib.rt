@@ -16,4 +16,4 @@ pub use exact::{
     begins_with, field_count, fields_into, four_fields, is_word, one_field, three_fields,
 };
 pub use line_numbers::line_count;
-pub use numbers::{MOST_DIGITS, MOST_WHOLE, tag, unsigned_number, whole_number};
+pub use numbers::{DIGIT_LIMIT, WHOLE_LIMIT, tag, unsigned_number, whole_number};

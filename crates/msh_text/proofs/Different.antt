@@ -3,7 +3,7 @@ use Rattle.std.proofs.Common.{◌≡◌, ◌==◌, ◌++◌, ℕ, Bool, true, fa
 use Rattle.std.specs.List.{list_any, IsDistinct, AllByRecursion}
 use Rattle.std.proofs.lemmas.Bool.{eqb-true, eq-eqb, or_parts, or_from, and_parts, and_from, not-true, not_from_false, false_from_ne_true, both_ways}
 use Rattle.std.proofs.lemmas.List.Folds.{list_any-append}
-use Rattle.msh_text.specs.Reading.{are_different}
+use Rattle.msh_text.specs.Calls.Sections.{are_different}
 
 eqb-flip : (a b : ℕ) (r : Bool) → (a == b) ≡ r → (b == a) ≡ r
 eqb-flip a b true e = eq-eqb b a (sym (eqb-true a b e))

@@ -1,7 +1,7 @@
 -- Rows that are no element with two tags and four nodes.
 use Rattle.std.proofs.Common.{◌≡◌, ℕ, List, [], ◌∷◌, length, None, refl}
 use Rattle.msh_text.specs.FirstForm.{Row, tet_of}
-use Rattle.msh_text.specs.Reading.{tet_at}
+use Rattle.msh_text.specs.Calls.Sections.{tet_at}
 
 tet_of-other : (numbers : List ℕ) (row : Row) → (length row ≡ 9 → ⊥) → tet_of numbers row ≡ None
 unfolding tet_of

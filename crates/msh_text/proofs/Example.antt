@@ -8,8 +8,8 @@ use Rattle.space3.specs.declared.lists.Tet.{Tet}
 use Rattle.space3.specs.Box.{IsInTheBox}
 use Rattle.space3.specs.Vectors.{vector}
 use Rattle.msh_text.specs.FirstForm.{number_of, coordinate_of, node_of, position_of, node_at, is_exactly, tet_of, IsFirstForm}
-use Rattle.msh_text.specs.Reading.{nodes_of, begins, after_word, after_version, after_format, count_at, row_at, with_node, nodes_at, node_section_at, are_different, tet_at, tets_at, tet_section_at, sections_at}
-use Rattle.msh_text.proofs.Found.{sections_mean}
+use Rattle.msh_text.specs.Calls.Sections.{node_lists, begins, after_word, after_version, after_format, count_at, row_at, with_node, nodes_at, node_section_at, are_different, tet_at, tets_at, tet_section_at, sections_at}
+use Rattle.msh_text.proofs.WhatIsReadIsMeant.{sections_mean}
 
 text : List ℕ
 text = codes "$MeshFormat\n2.2 0 8\n$EndMeshFormat\n\n$Nodes\n4\n7  +0\t00 0\r\n1 1000 0 0\n2 0 -1000 0\n9 0 0 1000\n$EndNodes\n$Elements\n1\n5 4 2 -3 0 9 1 2 7\n$EndElements\n"
@@ -23,7 +23,7 @@ numbers = 7 ∷ 1 ∷ 2 ∷ 9 ∷ []
 places : List V3
 places = vector (pos 0) (pos 0) (pos 0) ∷ vector (pos 1000) (pos 0) (pos 0) ∷ vector (pos 0) (neg_ℤ (pos 1000)) (pos 0) ∷ vector (pos 0) (pos 0) (pos 1000) ∷ []
 
-is_read : sections_at (rows text) ≡ Some (nodes_of numbers places, tet ∷ [])
+is_read : sections_at (rows text) ≡ Some (node_lists numbers places, tet ∷ [])
 unfolding text tet numbers places rows lines fields is_whole whole_of tag_of number_of unsigned_of coordinate_of node_of position_of node_at is_exactly tet_of begins after_word after_version after_format count_at row_at with_node nodes_at node_section_at are_different tet_at tets_at tet_section_at sections_at
 is_read = refl
 

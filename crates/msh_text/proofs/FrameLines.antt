@@ -105,20 +105,20 @@ frame_parts mesh places =
     ap (λ (t : List ℕ). head_text ++ ((decimal (length mesh.numbers) ++ codes "\n") ++ t)) front
     ∙ ap (λ (t : List ℕ). head_text ++ ((decimal (length mesh.numbers) ++ codes "\n") ++ (flat_map line_of nodes ++ (middle_text ++ ((decimal (length mesh.tets) ++ codes "\n") ++ t))))) tail
 
-regroup_8 : (h n ns f t ts e : List ℕ) → (((((((([] ++ h) ++ n) ++ codes "\n") ++ ns) ++ f) ++ t) ++ codes "\n") ++ ts) ++ e
-    ≡ h ++ ((n ++ codes "\n") ++ (ns ++ (f ++ ((t ++ codes "\n") ++ (ts ++ e)))))
-regroup_8 h n ns f t ts e = simp append_assoc
+regroup_8 : (o h n ns f t ts e : List ℕ) → ((((((((o ++ h) ++ n) ++ codes "\n") ++ ns) ++ f) ++ t) ++ codes "\n") ++ ts) ++ e
+    ≡ o ++ (h ++ ((n ++ codes "\n") ++ (ns ++ (f ++ ((t ++ codes "\n") ++ (ts ++ e))))))
+regroup_8 o h n ns f t ts e = simp append_assoc
 
 -- what was written of a frame is its text
-pub frame_whole : (mesh : Mesh) (places : List V3) (o0 o1 o2 o3 o4 o5 o6 o7 o8 o9 : List ℕ) → o0 ≡ [] → o1 ≡ o0 ++ head_text → o2 ≡ o1 ++ decimal (length mesh.numbers) → o3 ≡ o2 ++ codes "\n"
+pub frame_whole : (mesh : Mesh) (places : List V3) (o o1 o2 o3 o4 o5 o6 o7 o8 o9 : List ℕ) → o1 ≡ o ++ head_text → o2 ≡ o1 ++ decimal (length mesh.numbers) → o3 ≡ o2 ++ codes "\n"
     → o4 ≡ o3 ++ flat_map line_of (map node_row (zip mesh.numbers places)) → o5 ≡ o4 ++ middle_text → o6 ≡ o5 ++ decimal (length mesh.tets) → o7 ≡ o6 ++ codes "\n"
-    → o8 ≡ o7 ++ flat_map line_of (map (tet_row mesh.numbers) mesh.tets) → o9 ≡ o8 ++ end_text → o9 ≡ frame_text mesh places
-frame_whole mesh places o0 o1 o2 o3 o4 o5 o6 o7 o8 o9 e0 e1 e2 e3 e4 e5 e6 e7 e8 e9 =
+    → o8 ≡ o7 ++ flat_map line_of (map (tet_row mesh.numbers) mesh.tets) → o9 ≡ o8 ++ end_text → o9 ≡ o ++ frame_text mesh places
+frame_whole mesh places o o1 o2 o3 o4 o5 o6 o7 o8 o9 e1 e2 e3 e4 e5 e6 e7 e8 e9 =
     let n = decimal (length mesh.numbers) in
     let ns = flat_map line_of (map node_row (zip mesh.numbers places)) in
     let t = decimal (length mesh.tets) in
     let ts = flat_map line_of (map (tet_row mesh.numbers) mesh.tets) in
-    let parts : o9 ≡ (((((((([] ++ head_text) ++ n) ++ codes "\n") ++ ns) ++ middle_text) ++ t) ++ codes "\n") ++ ts) ++ end_text =
+    let parts : o9 ≡ ((((((((o ++ head_text) ++ n) ++ codes "\n") ++ ns) ++ middle_text) ++ t) ++ codes "\n") ++ ts) ++ end_text =
     e9 ∙ ap (λ (x : List ℕ). x ++ end_text) (e8 ∙ ap (λ (x : List ℕ). x ++ ts) (e7 ∙ ap (λ (x : List ℕ). x ++ codes "\n") (e6 ∙ ap (λ (x : List ℕ). x ++ t) (e5 ∙ ap (λ (x : List ℕ). x ++ middle_text)
-    (e4 ∙ ap (λ (x : List ℕ). x ++ ns) (e3 ∙ ap (λ (x : List ℕ). x ++ codes "\n") (e2 ∙ ap (λ (x : List ℕ). x ++ n) (e1 ∙ ap (λ (x : List ℕ). x ++ head_text) e0)))))))) in
-    parts ∙ regroup_8 head_text n ns middle_text t ts end_text ∙ sym (frame_parts mesh places)
+    (e4 ∙ ap (λ (x : List ℕ). x ++ ns) (e3 ∙ ap (λ (x : List ℕ). x ++ codes "\n") (e2 ∙ ap (λ (x : List ℕ). x ++ n) e1))))))) in
+    parts ∙ regroup_8 o head_text n ns middle_text t ts end_text ∙ sym (ap (λ x. o ++ x) (frame_parts mesh places))

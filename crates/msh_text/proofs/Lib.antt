@@ -1,13 +1,14 @@
-pub mod Again
 pub mod Different
 pub mod Elements
 pub mod Example
 pub mod Fields
-pub mod Found
 pub mod FrameLines
+pub mod Growth
 pub mod Loops
 pub mod NodeLoop
 pub mod Numbered
 pub mod Refusals
 pub mod Steps
+pub mod WhatIsMeantIsRead
+pub mod WhatIsReadIsMeant
 pub mod Words

@@ -5,7 +5,7 @@ use Rattle.std.specs.List.{list_any}
 use Rattle.space3.specs.declared.vectors.V3.{V3}
 use Rattle.space3.specs.declared.lists.Tet.{Tet}
 use Rattle.msh_text.specs.FirstForm.{Row, node_of, position_of}
-use Rattle.msh_text.specs.Reading.{Nodes, row_at, with_node, nodes_at, tet_at, tets_at}
+use Rattle.msh_text.specs.Calls.Sections.{Nodes, row_at, with_node, nodes_at, tet_at, tets_at}
 
 pub nodes-step : (count i : ℕ) (nodes : Nodes) (rows : List Row) (row : Row) (after : List Row) (node : ℕ × V3) (more : Nodes) (total : Option (Nodes × List Row)) → i < count → row_at rows ≡ Some (row, after) → node_of row ≡ Some node → with_node nodes node ≡ Some more → nodes_at (count - i) nodes rows ≡ total → nodes_at (count - (i + 1)) more after ≡ total
 unfolding nodes_at

@@ -7,12 +7,12 @@ use Rattle.std.proofs.lemmas.Bool.Decides.{nat_tests}
 use Rattle.std.proofs.lemmas.List.{length-append}
 use Rattle.space3.specs.declared.vectors.V3.{V3}
 use Rattle.msh_text.specs.FirstForm.{Row, node_of, position_of}
-use Rattle.msh_text.specs.Reading.{Nodes, nodes_of, row_at, with_node, nodes_at}
+use Rattle.msh_text.specs.Calls.Sections.{Nodes, node_lists, row_at, with_node, nodes_at}
 use Rattle.msh_text.proofs.Loops.{nodes-step, nodes-no_row, nodes-no_node, nodes-again, or_last, position_of-append, list_any-position}
 
 -- after i of so many nodes: what is read from here on is what was to be read, and each number is found where it stands
 pub record SoFar (count i : ℕ) (numbers : List ℕ) (places : List V3) (found : ℕ → Option ℕ) (rows : List Row) (total : Option (Nodes × List Row)) : Type 0 where
-  pub reads : nodes_at (count - i) (nodes_of numbers places) rows ≡ total
+  pub reads : nodes_at (count - i) (node_lists numbers places) rows ≡ total
   pub counted : length numbers ≡ i
   pub placed : length places ≡ i
   pub indexed : (number : ℕ) → found number ≡ position_of numbers number
@@ -27,18 +27,18 @@ row_at-nil rows e = rw e refl
 
 -- no line is left
 pub none_left : (count i : ℕ) (numbers : List ℕ) (places : List V3) (found : ℕ → Option ℕ) (rows : List Row) (total : Option (Nodes × List Row)) → i < count → rows ≡ [] → SoFar count i numbers places found rows total → total ≡ None
-none_left count i numbers places found rows total lt e h = nodes-no_row count i (nodes_of numbers places) rows total lt (row_at-nil rows e) h.reads
+none_left count i numbers places found rows total lt e h = nodes-no_row count i (node_lists numbers places) rows total lt (row_at-nil rows e) h.reads
 
 -- a line is no node
 pub no_node : (count i : ℕ) (numbers : List ℕ) (places : List V3) (found : ℕ → Option ℕ) (rows : List Row) (row : Row) (after : List Row) (total : Option (Nodes × List Row)) → i < count → rows ≡ row ∷ after → node_of row ≡ None
     → SoFar count i numbers places found rows total → total ≡ None
-no_node count i numbers places found rows row after total lt e n h = nodes-no_node count i (nodes_of numbers places) rows row after total lt (row_at-cons rows row after e) n h.reads
+no_node count i numbers places found rows row after total lt e n h = nodes-no_node count i (node_lists numbers places) rows row after total lt (row_at-cons rows row after e) n h.reads
 
-again : (numbers : List ℕ) (places : List V3) (number : ℕ) (place : V3) → is_some (position_of numbers number) ≡ true → with_node (nodes_of numbers places) (number, place) ≡ None
+again : (numbers : List ℕ) (places : List V3) (number : ℕ) (place : V3) → is_some (position_of numbers number) ≡ true → with_node (node_lists numbers places) (number, place) ≡ None
 unfolding with_node
 again numbers places number place e = rw (list_any-position numbers number) (rw e refl)
 
-new : (numbers : List ℕ) (places : List V3) (number : ℕ) (place : V3) → is_some (position_of numbers number) ≡ false → with_node (nodes_of numbers places) (number, place) ≡ Some (nodes_of (numbers ++ number ∷ []) (places ++ place ∷ []))
+new : (numbers : List ℕ) (places : List V3) (number : ℕ) (place : V3) → is_some (position_of numbers number) ≡ false → with_node (node_lists numbers places) (number, place) ≡ Some (node_lists (numbers ++ number ∷ []) (places ++ place ∷ []))
 unfolding with_node
 new numbers places number place e = rw (list_any-position numbers number) (rw e refl)
 
@@ -46,7 +46,7 @@ new numbers places number place e = rw (list_any-position numbers number) (rw e 
 pub comes_again : (count i : ℕ) (numbers : List ℕ) (places : List V3) (found : ℕ → Option ℕ) (rows : List Row) (row : Row) (after : List Row) (number : ℕ) (place : V3) (old : Option ℕ) (total : Option (Nodes × List Row)) → i < count → rows ≡ row ∷ after
     → node_of row ≡ Some (number, place) → old ≡ found number → is_some old ≡ true → SoFar count i numbers places found rows total → total ≡ None
 comes_again count i numbers places found rows row after number place old total lt e n o t h =
-    nodes-again count i (nodes_of numbers places) rows row after (number, place) total lt (row_at-cons rows row after e) n
+    nodes-again count i (node_lists numbers places) rows row after (number, place) total lt (row_at-cons rows row after e) n
     (again numbers places number place (ap is_some (sym (o ∙ h.indexed number)) ∙ t)) h.reads
 
 same_test : (a b : ℕ) → is_eq (nat_cmp a b) ≡ (a == b)
@@ -68,11 +68,11 @@ none_from (Some k) e = absurd cc
 none_from None e = refl
 
 -- one node more
-pub one_more : (count i : ℕ) (numbers : List ℕ) (places : List V3) (found found' : ℕ → Option ℕ) (rows : List Row) (row : Row) (after : List Row) (number : ℕ) (place : V3) (old : Option ℕ) (total : Option (Nodes × List Row)) → i < count → rows ≡ row ∷ after
+pub one_more_node : (count i : ℕ) (numbers : List ℕ) (places : List V3) (found found' : ℕ → Option ℕ) (rows : List Row) (row : Row) (after : List Row) (number : ℕ) (place : V3) (old : Option ℕ) (total : Option (Nodes × List Row)) → i < count → rows ≡ row ∷ after
     → node_of row ≡ Some (number, place) → old ≡ found number → is_some old ≡ false → ((q : ℕ) → found' q ≡ cond (is_eq (nat_cmp number q)) (Some i) (found q)) → SoFar count i numbers places found rows total
     → SoFar count (i + 1) (numbers ++ number ∷ []) (places ++ place ∷ []) found' after total
-one_more count i numbers places found found' rows row after number place old total lt e n o t u h = record {
-  reads = nodes-step count i (nodes_of numbers places) rows row after (number, place) (nodes_of (numbers ++ number ∷ []) (places ++ place ∷ [])) total lt (row_at-cons rows row after e) n
+one_more_node count i numbers places found found' rows row after number place old total lt e n o t u h = record {
+  reads = nodes-step count i (node_lists numbers places) rows row after (number, place) (node_lists (numbers ++ number ∷ []) (places ++ place ∷ [])) total lt (row_at-cons rows row after e) n
       (new numbers places number place (ap is_some (sym (o ∙ h.indexed number)) ∙ t)) h.reads;
   counted = omega (arith, length-append numbers (number ∷ []), h.counted);
   placed = omega (arith, length-append places (place ∷ []), h.placed);
@@ -81,8 +81,8 @@ one_more count i numbers places found found' rows row after number place old tot
 }
 
 -- before the first node
-pub none_yet : (count : ℕ) (found : ℕ → Option ℕ) (rows : List Row) → ((q : ℕ) → found q ≡ None) → SoFar count 0 [] [] found rows (nodes_at count (nodes_of [] []) rows)
+pub no_nodes_yet : (count : ℕ) (found : ℕ → Option ℕ) (rows : List Row) → ((q : ℕ) → found q ≡ None) → SoFar count 0 [] [] found rows (nodes_at count (node_lists [] []) rows)
 unfolding position_of
-none_yet count found rows h =
+no_nodes_yet count found rows h =
     let k : count - 0 ≡ count = omega arith in
-    record { reads = ap (λ (n : ℕ). nodes_at n (nodes_of [] []) rows) k; counted = refl; placed = refl; indexed = h }
+    record { reads = ap (λ (n : ℕ). nodes_at n (node_lists [] []) rows) k; counted = refl; placed = refl; indexed = h }

@@ -1,5 +1,5 @@
 -- The first row of a text, by its first line with a number.
-use Rattle.std.proofs.Common.{◌≡◌, ◌∙◌, ℕ, ◌+◌, List, [], ◌∷◌, map, refl, sym, ap}
+use Rattle.std.proofs.Common.{◌≡◌, ◌∙◌, ℕ, ◌+◌, List, [], ◌∷◌, map, sym, ap}
 use Rattle.line_fields.specs.Lines.{fields, rows, numbered_from}
 use Rattle.line_fields.proofs.Numbered.{numbered-rows}
 

@@ -4,9 +4,9 @@ use Rattle.space3.specs.declared.lists.Tet.{Tet}
 use Rattle.msh_text.specs.declared.refusal.ReadMshErr.{ReadMshErr}
 use Rattle.msh_text.specs.declared.refusal.ReadMshErr.TheVariants as errors
 use Rattle.msh_text.specs.FirstForm.{Row}
-use Rattle.msh_text.specs.Reading.{sections_at, row_at, tet_at, tets_at}
+use Rattle.msh_text.specs.Calls.Sections.{sections_at, row_at, tet_at, tets_at}
 use Rattle.msh_text.specs.Gives.{Fails, Refuses}
-use Rattle.msh_text.proofs.Again.{no_mesh}
+use Rattle.msh_text.proofs.WhatIsMeantIsRead.{no_mesh}
 use Rattle.msh_text.proofs.Loops.{tets-no_tet}
 
 pub refuses : (e : ReadMshErr) (rows : List Row) → Fails e (sections_at rows) → Refuses e rows

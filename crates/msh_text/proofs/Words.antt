@@ -1,9 +1,9 @@
 -- Rows that begin with a word.
 use Rattle.std.proofs.Common.{◌≡◌, ℕ, Bool, true, false, List, ◌∷◌, Some, None, slice_get, refl}
 use Rattle.msh_text.specs.FirstForm.{Row}
-use Rattle.msh_text.specs.Reading.{begins, after_word}
-use Rattle.msh_text.proofs.Again.{begins_again}
-use Rattle.msh_text.proofs.Found.{begins_found}
+use Rattle.msh_text.specs.Calls.Sections.{begins, after_word}
+use Rattle.msh_text.proofs.WhatIsMeantIsRead.{begins_again}
+use Rattle.msh_text.proofs.WhatIsReadIsMeant.{begins_found}
 
 begins_missed : (word : List ℕ) (row : Row) → (slice_get row 0 ≡ Some word → ⊥) → begins word row ≡ false
 begins_missed word row h = by_test (begins word row) (λ t. absurd (h (begins_found word row t))) (λ f. f)

@@ -1,5 +1,4 @@
-pub mod Elements
+pub mod Calls
 pub mod FirstForm
 pub mod Frame
 pub mod Gives
-pub mod Reading

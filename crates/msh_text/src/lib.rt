@@ -13,6 +13,3 @@ pub use frame::write_frame;
 pub use laws::one_mesh;
 pub use read::read_msh;
 pub use refusal::{MshErr, MshKind, ReadMshErr};
-
-#[cfg(test)]
-mod tests;

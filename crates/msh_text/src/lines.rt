@@ -2,7 +2,7 @@
 ghost use Rattle.std.specs.Prelude.{◌≡◌, ◌∷◌, [], option_map, MatchOption};
 ghost use Rattle.line_fields.specs.Lines.{fields, rows};
 ghost use Rattle.msh_text.specs.FirstForm.{number_of};
-ghost use Rattle.msh_text.specs.Reading.{after_word, after_version, after_format, count_at};
+ghost use Rattle.msh_text.specs.Calls.Sections.{after_word, after_version, after_format, count_at};
 
 use line_fields::{begins_with, is_word, next_line, one_field, three_fields, whole_number};
 
@@ -15,7 +15,7 @@ pub fn next_row(text: &[u8]) -> Option<(&[u8], &[u8])>
 }
 
 // What follows a line that begins with a word.
-#[tactic(auto, unfolding(crate::specs::Reading::after_word))]
+#[tactic(auto, unfolding(crate::specs::Calls::Sections::after_word))]
 pub fn skip_word<'a>(text: &'a [u8], word: &[u8]) -> Option<&'a [u8]>
     ensures { option_map (λ rest. rows rest.now) result ≡ after_word word.now (rows text.now) }
 {
@@ -28,7 +28,7 @@ pub fn skip_word<'a>(text: &'a [u8], word: &[u8]) -> Option<&'a [u8]>
 }
 
 // What follows the line of the format, which has to be version 2.2 as text.
-#[tactic(auto, unfolding(crate::specs::Reading::after_version))]
+#[tactic(auto, unfolding(crate::specs::Calls::Sections::after_version))]
 fn skip_version(text: &[u8]) -> Option<&[u8]>
     ensures { option_map (λ rest. rows rest.now) result ≡ after_version (rows text.now) }
 {
@@ -41,7 +41,7 @@ fn skip_version(text: &[u8]) -> Option<&[u8]>
     }
 }
 
-#[tactic(auto, unfolding(crate::specs::Reading::after_format))]
+#[tactic(auto, unfolding(crate::specs::Calls::Sections::after_format))]
 pub fn skip_format(text: &[u8]) -> Option<&[u8]>
     ensures { option_map (λ rest. rows rest.now) result ≡ after_format (rows text.now) }
 {
@@ -52,7 +52,7 @@ pub fn skip_format(text: &[u8]) -> Option<&[u8]>
 }
 
 // A count of at most so many on a line of its own.
-#[tactic(auto, unfolding(crate::specs::Reading::count_at))]
+#[tactic(auto, unfolding(crate::specs::Calls::Sections::count_at))]
 pub fn count(text: &[u8], limit: u32) -> Option<(u32, &[u8])>
     ensures { option_map (λ found. (found.0, rows found.1.now)) result ≡ count_at limit (rows text.now) }
 {

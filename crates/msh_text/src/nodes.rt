@@ -4,7 +4,7 @@ ghost use Rattle.std.specs.Ordering.{nat_cmp};
 ghost use Rattle.std.specs.BTreeMap.{get};
 ghost use Rattle.line_fields.specs.Lines.{fields, rows, unsigned_of};
 ghost use Rattle.msh_text.specs.FirstForm.{coordinate_of, node_of, position_of};
-ghost use Rattle.msh_text.specs.Reading.{nodes_of, nodes_at};
+ghost use Rattle.msh_text.specs.Calls.Sections.{node_lists, nodes_at};
 ghost use Rattle.msh_text.specs.Gives.{Gives};
 
 use crate::lines::{next_row, positive_number};
@@ -36,7 +36,7 @@ impl Nodes {
 
 /// So many nodes from the lines of a text, and what follows them.
 pub fn read_nodes(alloc: Global, count: u32, text: &[u8]) -> Result<(Nodes, &[u8]), ReadMshErr>
-    ensures { Gives (λ x. (nodes_of x.0.numbers.items x.0.places.items, rows x.1.now)) result (nodes_at count (nodes_of [] []) (rows text.now)) }
+    ensures { Gives (λ x. (node_lists x.0.numbers.items x.0.places.items, rows x.1.now)) result (nodes_at count (node_lists [] []) (rows text.now)) }
 {
     let mut numbers = Vec::new(alloc);
     let mut places = Vec::new(alloc);

@@ -2,19 +2,15 @@
 ghost use Rattle.std.specs.Prelude.{◌≡◌, IfOk, IfErr, List, length, Option, Some};
 ghost use Rattle.line_fields.specs.Lines.{rows};
 ghost use Rattle.msh_text.specs.FirstForm.{IsFirstForm};
-ghost use Rattle.msh_text.specs.Reading.{after_word, nodes_of, node_section_at, tet_section_at, sections_at};
+ghost use Rattle.msh_text.specs.Calls.Sections.{after_word, node_lists, node_section_at, tet_section_at, sections_at};
 ghost use Rattle.msh_text.specs.Gives.{Gives, Refuses};
 
 use crate::lines::{count, next_row, skip_format, skip_word};
 use crate::nodes::{Nodes, read_nodes};
 use crate::refusal::{FIRST_FORM, ReadMshErr};
 use crate::tets::read_tets;
-use space3::{Mesh, NodeNumbers, Places, Tet, TetList};
+use space3::{Mesh, NODE_LIMIT, NodeNumbers, Places, TET_LIMIT, Tet, TetList};
 use std::alloc::Global;
-
-const NODE_LIMIT: u32 = 16384;
-
-const TET_LIMIT: u32 = 65536;
 
 // What follows a line that has to begin with a word.
 fn expect_word<'a>(text: &'a [u8], word: &[u8]) -> Result<&'a [u8], ReadMshErr>
@@ -26,9 +22,9 @@ fn expect_word<'a>(text: &'a [u8], word: &[u8]) -> Result<&'a [u8], ReadMshErr>
     }
 }
 
-#[tactic(auto, unfolding(crate::specs::Reading::node_section_at))]
+#[tactic(auto, unfolding(crate::specs::Calls::Sections::node_section_at))]
 fn node_section(alloc: Global, text: &[u8]) -> Result<(Nodes, &[u8]), ReadMshErr>
-    ensures { Gives (λ x. (nodes_of x.0.numbers.items x.0.places.items, rows x.1.now)) result (node_section_at (rows text.now)) }
+    ensures { Gives (λ x. (node_lists x.0.numbers.items x.0.places.items, rows x.1.now)) result (node_section_at (rows text.now)) }
 {
     let rest = expect_word(text, b"$Nodes")?;
     let (count, rest) = count(rest, NODE_LIMIT).ok_or(FIRST_FORM)?;
@@ -37,7 +33,7 @@ fn node_section(alloc: Global, text: &[u8]) -> Result<(Nodes, &[u8]), ReadMshErr
     Ok((nodes, rest))
 }
 
-#[tactic(auto, unfolding(crate::specs::Reading::tet_section_at))]
+#[tactic(auto, unfolding(crate::specs::Calls::Sections::tet_section_at))]
 fn tet_section<'a>(
     alloc: Global,
     nodes: &Nodes,
@@ -55,9 +51,9 @@ fn tet_section<'a>(
     Ok((tets, rest))
 }
 
-#[tactic(auto, unfolding(crate::specs::Reading::sections_at))]
+#[tactic(auto, unfolding(crate::specs::Calls::Sections::sections_at))]
 fn sections(alloc: Global, text: &[u8]) -> Result<(Nodes, Vec<Tet>), ReadMshErr>
-    ensures { Gives (λ x. (nodes_of x.0.numbers.items x.0.places.items, x.1.items)) result (sections_at (rows text.now)) }
+    ensures { Gives (λ x. (node_lists x.0.numbers.items x.0.places.items, x.1.items)) result (sections_at (rows text.now)) }
 {
     let rest = skip_format(text).ok_or(FIRST_FORM)?;
     let (nodes, rest) = node_section(alloc, rest)?;

@@ -2,9 +2,9 @@
 ghost use Rattle.std.specs.Prelude.{◌≡◌, ◌≢◌, ◌==◌, length, ◌∷◌, [], List, ℕ, Option, Some, None, MatchOption, IsTrue, option_map, if◌then◌else◌};
 ghost use Rattle.line_fields.specs.Lines.{fields, rows};
 ghost use Rattle.msh_text.specs.FirstForm.{is_exactly, node_at, tet_of};
-ghost use Rattle.msh_text.specs.Reading.{are_different, tet_at, tets_at};
+ghost use Rattle.msh_text.specs.Calls.Sections.{are_different, tet_at, tets_at};
 ghost use Rattle.msh_text.specs.Gives.{Gives};
-ghost use Rattle.msh_text.specs.Elements.{tet_value, element_row};
+ghost use Rattle.msh_text.specs.Calls.Elements.{tet_value, element_row};
 
 use crate::lines::{next_row, positive_number};
 use crate::nodes::Nodes;
@@ -23,9 +23,9 @@ struct Element<'a> {
     nodes: (&'a [u8], &'a [u8], &'a [u8], &'a [u8]),
 }
 
-/// A tetrahedron whose tags are not yet in a list.
+/// The numbers of a tetrahedron whose tags are not yet in a list.
 #[derive(Clone, Copy)]
-struct Parts {
+struct TetNumbers {
     number: u32,
     nodes: [u32; 4],
     tags: [i32; 2],
@@ -33,7 +33,7 @@ struct Parts {
 
 // Whether a field is that whole number.
 #[tactic(auto, unfolding(crate::specs::FirstForm::is_exactly))]
-fn exactly(field: &[u8], k: u32) -> Option<u32>
+fn expected_number(field: &[u8], k: u32) -> Option<u32>
     ensures { result ≡ is_exactly k field.now }
 {
     let n = whole_number(field)?;
@@ -48,18 +48,18 @@ fn position(nodes: &Nodes, field: &[u8]) -> Option<u32>
 }
 
 // Whether no number comes twice.
-#[tactic(auto, unfolding(crate::specs::Reading::are_different))]
-fn differ(nodes: &[u32]) -> bool
+#[tactic(auto, unfolding(crate::specs::Calls::Sections::are_different))]
+fn are_different(nodes: &[u32]) -> bool
     ensures { result ≡ are_different nodes.now }
 {
     match nodes {
         [] => true,
-        [first, rest @ ..] => !rest.contains(first) && differ(rest),
+        [first, rest @ ..] => !rest.contains(first) && are_different(rest),
     }
 }
 
 // The nine fields of a line.
-fn fields_of(line: &[u8]) -> Option<Element<'_>>
+fn element_fields(line: &[u8]) -> Option<Element<'_>>
     ensures { MatchOption result (length (fields line.now) ≢ 9) (λ e. fields line.now ≡ element_row e) }
 {
     let (name, rest) = next_field(line)?;
@@ -79,19 +79,19 @@ fn fields_of(line: &[u8]) -> Option<Element<'_>>
 
 // The tetrahedron of nine fields.
 #[tactic(auto, unfolding(crate::specs::FirstForm::tet_of))]
-fn parts_of(nodes: &Nodes, e: &Element<'_>) -> Option<Parts>
+fn tet_numbers(nodes: &Nodes, e: &Element<'_>) -> Option<TetNumbers>
     ensures { option_map tet_value result ≡ tet_of nodes.now.numbers.items (element_row e.now) }
 {
     let number = positive_number(e.name)?;
-    exactly(e.kind, 4)?;
-    exactly(e.tag_count, 2)?;
+    expected_number(e.kind, 4)?;
+    expected_number(e.tag_count, 2)?;
     let first = tag(e.tags.0)?;
     let second = tag(e.tags.1)?;
     let a = position(nodes, e.nodes.0)?;
     let b = position(nodes, e.nodes.1)?;
     let c = position(nodes, e.nodes.2)?;
     let d = position(nodes, e.nodes.3)?;
-    Some(Parts {
+    Some(TetNumbers {
         number,
         nodes: [a, b, c, d],
         tags: [first, second],
@@ -99,23 +99,23 @@ fn parts_of(nodes: &Nodes, e: &Element<'_>) -> Option<Parts>
 }
 
 // The tetrahedron of a line, of four different nodes.
-#[tactic(auto, unfolding(crate::specs::Reading::tet_at))]
+#[tactic(auto, unfolding(crate::specs::Calls::Sections::tet_at))]
 fn read_tet(alloc: Global, nodes: &Nodes, line: &[u8]) -> Result<Tet, ReadMshErr>
     ensures { Gives (λ tet. tet) result (tet_at nodes.now.numbers.items (fields line.now)) }
 {
-    let Some(fields) = fields_of(line) else {
+    let Some(fields) = element_fields(line) else {
         return Err(FIRST_FORM);
     };
-    let Some(parts) = parts_of(nodes, &fields) else {
+    let Some(numbers) = tet_numbers(nodes, &fields) else {
         return Err(FIRST_FORM);
     };
-    if !differ(&parts.nodes) {
+    if !are_different(&numbers.nodes) {
         return Err(FIRST_FORM);
     }
-    let tags = Tags::of_slice(alloc, &parts.tags)?;
+    let tags = Tags::of_slice(alloc, &numbers.tags)?;
     Ok(Tet {
-        number: parts.number,
-        nodes: parts.nodes,
+        number: numbers.number,
+        nodes: numbers.nodes,
         tags,
     })
 }

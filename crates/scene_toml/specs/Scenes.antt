@@ -2,7 +2,7 @@
 use Rattle.std.specs.Prelude.{◌≡◌, List, length, ℕ, ◌^◌, ◌≤◌, pos, Option, Some, None, Result, Ok, Err}
 use Rattle.toml.specs.Data.{Members}
 use Rattle.surface_mesh.specs.Materials.{AreNumbers, IsFrom}
-use Rattle.scene_toml.specs.declared.keys.TheConstants.{MOST_NAME, MOST_FRAMES, MOST_BUDGET, MOST_TOL}
+use Rattle.scene_toml.specs.declared.keys.TheConstants.{NAME_LIMIT, FRAME_LIMIT, BUDGET_LIMIT, TOL_LIMIT}
 use Rattle.scene_toml.specs.declared.refusal.SceneErr.{SceneErr}
 use Rattle.scene_toml.specs.declared.refusal.SceneErr.TheVariants.{NotToml, UnknownKey}
 use Rattle.scene_toml.specs.declared.scene.Scene.{Scene}
@@ -32,15 +32,15 @@ scene_of_text bytes = scene_of_table (table_of bytes)
 -- a file's name in a scene
 pub record IsName (name : List ℕ) : Type 0 where
   pub not_empty : 1 ≤ length name
-  pub short : length name ≤ MOST_NAME
+  pub short : length name ≤ NAME_LIMIT
 
 -- what each scene meets
 pub record IsScene (scene : Scene) : Type 0 where
   pub mesh : IsName scene.mesh
   pub out : IsName scene.out
   pub digits : scene.digits ≡ 0
-  pub frames : scene.frames ≤ MOST_FRAMES
+  pub frames : scene.frames ≤ FRAME_LIMIT
   pub some_budget : 1 ≤ scene.budget
-  pub budget : scene.budget ≤ MOST_BUDGET
-  pub tol : IsFrom (pos 0) MOST_TOL scene.tol
+  pub budget : scene.budget ≤ BUDGET_LIMIT
+  pub tol : IsFrom (pos 0) TOL_LIMIT scene.tol
   pub numbers : AreNumbers scene.numbers

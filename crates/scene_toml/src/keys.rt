@@ -10,28 +10,28 @@ use std::alloc::{AllocError, Global};
 use std::marker::Model;
 
 /// The longest name of a file in bytes: with a frame's number and ending it stays within what file systems take, 255.
-pub const MOST_NAME: usize = 200;
+pub const NAME_LIMIT: usize = 200;
 
 /// The most frames after the first: their numbers are written with four digits.
-pub const MOST_FRAMES: u32 = 9999;
+pub const FRAME_LIMIT: u32 = 9999;
 
 /// The greatest budget of a frame: no frame takes more steps.
-pub const MOST_BUDGET: u32 = 1000;
+pub const BUDGET_LIMIT: u32 = 1000;
 
 /// The greatest tolerance: a signed 64-bit word holds it with a bit to spare.
-pub const MOST_TOL: i64 = 1 << 62;
+pub const TOL_LIMIT: i64 = 1 << 62;
 
 /// The least and the greatest value of an integer, of each of three integers, or of a text's length in bytes.
 #[derive(Clone, Copy)]
 pub(crate) struct Range(i64, i64);
 
-pub(crate) const NAME_LENGTHS: Range = Range(1, MOST_NAME as i64);
+pub(crate) const NAME_LENGTHS: Range = Range(1, NAME_LIMIT as i64);
 
-pub(crate) const FRAME_COUNTS: Range = Range(0, MOST_FRAMES as i64);
+pub(crate) const FRAME_COUNTS: Range = Range(0, FRAME_LIMIT as i64);
 
-pub(crate) const BUDGETS: Range = Range(1, MOST_BUDGET as i64);
+pub(crate) const BUDGETS: Range = Range(1, BUDGET_LIMIT as i64);
 
-pub(crate) const TOLERANCES: Range = Range(0, MOST_TOL);
+pub(crate) const TOLERANCES: Range = Range(0, TOL_LIMIT);
 
 pub(crate) const GRAVITIES: Range = Range(-(1 << 20), 1 << 20);
 

@@ -9,7 +9,7 @@ mod tables;
 mod texts;
 mod values;
 
-pub use keys::{MOST_BUDGET, MOST_FRAMES, MOST_NAME, MOST_TOL};
+pub use keys::{BUDGET_LIMIT, FRAME_LIMIT, NAME_LIMIT, TOL_LIMIT};
 pub use laws::{scenes_are_in_range, scenes_are_refused_in_key_order};
 pub use refusal::{ReadSceneErr, SceneErr};
 pub use scene::{Scene, read_scene};

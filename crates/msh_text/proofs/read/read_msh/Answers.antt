@@ -3,8 +3,8 @@ use Rattle.std.specs.Prelude.{IsSome}
 use Rattle.std.proofs.lemmas.Result.{err_from_is_err_and}
 use Rattle.line_fields.specs.Lines.{rows}
 use Rattle.space3.specs.Box.{IsInTheBox}
-use Rattle.msh_text.proofs.Found.{sections_mean}
-use Rattle.msh_text.proofs.Again.{no_mesh-outside}
+use Rattle.msh_text.proofs.WhatIsReadIsMeant.{sections_mean}
+use Rattle.msh_text.proofs.WhatIsMeantIsRead.{no_mesh-outside}
 use Rattle.msh_text.proofs.Refusals.{refuses}
 use Rattle.msh_text.proofs.read.read_msh.Goals as goal
 

@@ -3,7 +3,7 @@ use Rattle.std.specs.Prelude.{codes}
 use Rattle.line_fields.specs.Lines.{rows}
 use Rattle.space3.specs.declared.lists.Tet.{Tet}
 use Rattle.msh_text.specs.FirstForm.{Row}
-use Rattle.msh_text.specs.Reading.{after_word, count_at, tets_at, tet_section_at}
+use Rattle.msh_text.specs.Calls.Sections.{after_word, count_at, tets_at, tet_section_at}
 use Rattle.msh_text.proofs.read.tet_section.Goals as goal
 
 through : (numbers : List ℕ) (text one two three four : List Row) (n : ℕ) (tets : List Tet) → after_word (codes "$Elements") text ≡ Some one → count_at 65536 one ≡ Some (n, two) → tets_at n numbers [] two ≡ Some (tets, three)

@@ -1,7 +1,7 @@
 use Rattle.std.proofs.Common.{◌≡◌, ◌-◌}
 use Rattle.std.specs.Prelude.{[]}
 use Rattle.line_fields.specs.Lines.{rows}
-use Rattle.msh_text.specs.Reading.{tets_at}
+use Rattle.msh_text.specs.Calls.Sections.{tets_at}
 use Rattle.msh_text.proofs.tets.read_tets.Given as goal
 
 abbrev pub invariant-loop : goal.invariant-loop

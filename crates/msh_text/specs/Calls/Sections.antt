@@ -1,10 +1,11 @@
--- Reading rows from the first to the last, as the reader does.
+-- The sections of a mesh text, row by row.
 use Rattle.std.specs.Prelude.{◌==◌, ◌&&◌, ◌++◌, not, ℕ, zero, suc, Bool, true, false, List, [], ◌∷◌, length, codes, nat_le, if◌then◌else◌, Option, Some, None, is_some}
 use Rattle.std.specs.List.{list_any}
 use Rattle.std.specs.Str.{bytes_eq}
 use Rattle.line_fields.specs.Lines.{whole_of}
 use Rattle.space3.specs.declared.vectors.V3.{V3}
 use Rattle.space3.specs.declared.lists.Tet.{Tet}
+use Rattle.space3.specs.declared.mesh.TheConstants.{NODE_LIMIT, TET_LIMIT}
 use Rattle.msh_text.specs.FirstForm.{Row, ◌>>=◌, node_of, tet_of}
 
 -- the row begins with that word
@@ -41,18 +42,19 @@ unfoldable pub row_at : List Row → Option (Row × List Row)
 row_at [] = None
 row_at (row ∷ rows) = Some (row, rows)
 
+-- the numbers of nodes, and their places
 pub record Nodes : Type 0 where
   pub numbers : List ℕ
   pub places : List V3
 
-abbrev pub nodes_of : List ℕ → List V3 → Nodes
-nodes_of numbers places = record { numbers = numbers; places = places }
+abbrev pub node_lists : List ℕ → List V3 → Nodes
+node_lists numbers places = record { numbers = numbers; places = places }
 
 -- one more node, if no earlier one has its number
 unfoldable pub with_node : Nodes → ℕ × V3 → Option Nodes
 with_node nodes node =
     if list_any (λ m. m == node.0) nodes.numbers then None
-    else Some (nodes_of (nodes.numbers ++ node.0 ∷ []) (nodes.places ++ node.1 ∷ []))
+    else Some (node_lists (nodes.numbers ++ node.0 ∷ []) (nodes.places ++ node.1 ∷ []))
 
 -- so many more nodes, and what follows them
 unfoldable pub nodes_at : ℕ → Nodes → List Row → Option (Nodes × List Row)
@@ -66,8 +68,8 @@ nodes_at (suc n) nodes rows = do
 unfoldable pub node_section_at : List Row → Option (Nodes × List Row)
 node_section_at rows = do
   rows ← after_word (codes "$Nodes") rows
-  count ← count_at 16384 rows
-  nodes ← nodes_at count.0 (nodes_of [] []) count.1
+  count ← count_at NODE_LIMIT rows
+  nodes ← nodes_at count.0 (node_lists [] []) count.1
   rows ← after_word (codes "$EndNodes") nodes.1
   Some (nodes.0, rows)
 
@@ -93,7 +95,7 @@ tets_at (suc n) numbers tets rows = do
 unfoldable pub tet_section_at : List ℕ → List Row → Option (List Tet × List Row)
 tet_section_at numbers rows = do
   rows ← after_word (codes "$Elements") rows
-  count ← count_at 65536 rows
+  count ← count_at TET_LIMIT rows
   tets ← tets_at count.0 numbers [] count.1
   rows ← after_word (codes "$EndElements") tets.1
   if length tets.0 == 0 then None else Some (tets.0, rows)

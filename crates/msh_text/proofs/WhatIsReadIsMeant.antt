@@ -14,7 +14,7 @@ use Rattle.space3.specs.Vectors.{vector}
 use Rattle.space3.specs.Box.{IsInTheBox}
 use Rattle.space3.specs.Mesh.{IsNumber, IsSoundTet}
 use Rattle.msh_text.specs.FirstForm.{Row, ◌>>=◌, number_of, coordinate_of, node_of, node_at, is_exactly, tet_of, IsSection, IsFormat, IsCounted, IsFirstForm}
-use Rattle.msh_text.specs.Reading.{Nodes, nodes_of, begins, after_word, after_version, after_format, count_at, row_at, with_node, nodes_at, node_section_at, are_different, tet_at, tets_at, tet_section_at, sections_at}
+use Rattle.msh_text.specs.Calls.Sections.{Nodes, node_lists, begins, after_word, after_version, after_format, count_at, row_at, with_node, nodes_at, node_section_at, are_different, tet_at, tets_at, tet_section_at, sections_at}
 use Rattle.msh_text.proofs.Steps.{bind_some, guard_none, bytes_eq-true, zip-parts}
 use Rattle.msh_text.proofs.Fields.{number_found, tag_found, node_found}
 use Rattle.msh_text.proofs.Different.{AreNew, AreNew-cons, IsDistinct-are_different}
@@ -73,7 +73,7 @@ node_number (name ∷ x ∷ y ∷ z ∷ []) node e =
 node_number row node e = absurd cc
 
 abbrev with_one : Nodes → ℕ × V3 → Nodes
-with_one nodes node = nodes_of (nodes.numbers ++ node.0 ∷ []) (nodes.places ++ node.1 ∷ [])
+with_one nodes node = node_lists (nodes.numbers ++ node.0 ∷ []) (nodes.places ++ node.1 ∷ [])
 
 node_taken : (nodes : Nodes) (node : ℕ × V3) (more : Nodes) → with_node nodes node ≡ Some more → (list_any (λ m. m == node.0) nodes.numbers ≡ false) × (with_one nodes node ≡ more)
 unfolding with_node
@@ -233,7 +233,7 @@ record TakesNodeSection (rows : List Row) (nodes : Nodes) (rest : List Row) : Ty
   numbered : All IsNumber nodes.numbers
   different : IsDistinct (λ m n. m == n) nodes.numbers
 
-nodes_between : (rows inner : List Row) (count : ℕ × List Row) (after : Nodes × List Row) (rest : List Row) → TakesWord (codes "$Nodes") rows inner → count_at 16384 inner ≡ Some count → TakesNodes count.0 (nodes_of [] []) count.1 after → TakesWord (codes "$EndNodes") after.1 rest
+nodes_between : (rows inner : List Row) (count : ℕ × List Row) (after : Nodes × List Row) (rest : List Row) → TakesWord (codes "$Nodes") rows inner → count_at 16384 inner ≡ Some count → TakesNodes count.0 (node_lists [] []) count.1 after → TakesWord (codes "$EndNodes") after.1 rest
     → TakesNodeSection rows after.0 rest
 nodes_between rows inner count after rest opens counted n ends =
     let c = count_found 16384 inner count counted in
@@ -259,12 +259,12 @@ node_section_found : (rows : List Row) (x : Nodes × List Row) → node_section_
 unfolding node_section_at
 node_section_found rows x e =
     let end : Nodes × List Row → Option (Nodes × List Row) = λ n. after_word (codes "$EndNodes") n.1 >>= λ r. Some (n.0, r) in
-    bind_some (after_word (codes "$Nodes") rows) (λ r. count_at 16384 r >>= λ c. nodes_at c.0 (nodes_of [] []) c.1 >>= λ n. end n) x e (λ inner opens e.
-    bind_some (count_at 16384 inner) (λ c. nodes_at c.0 (nodes_of [] []) c.1 >>= λ n. end n) x e (λ count counted e.
-    bind_some (nodes_at count.0 (nodes_of [] []) count.1) end x e (λ after found e.
+    bind_some (after_word (codes "$Nodes") rows) (λ r. count_at 16384 r >>= λ c. nodes_at c.0 (node_lists [] []) c.1 >>= λ n. end n) x e (λ inner opens e.
+    bind_some (count_at 16384 inner) (λ c. nodes_at c.0 (node_lists [] []) c.1 >>= λ n. end n) x e (λ count counted e.
+    bind_some (nodes_at count.0 (node_lists [] []) count.1) end x e (λ after found e.
     bind_some (after_word (codes "$EndNodes") after.1) (λ r. Some (after.0, r)) x e (λ rest ends e.
     subst (λ (y : Nodes × List Row). TakesNodeSection rows y.0 y.1) (same_Some (after.0, rest) x e)
-    (nodes_between rows inner count after rest (word_found _ rows inner opens) counted (nodes_found count.0 (nodes_of [] []) count.1 after found) (word_found _ after.1 rest ends))))))
+    (nodes_between rows inner count after rest (word_found _ rows inner opens) counted (nodes_found count.0 (node_lists [] []) count.1 after found) (word_found _ after.1 rest ends))))))
 
 -- the section of the tetrahedra at the front
 record TakesTetSection (numbers : List ℕ) (rows : List Row) (tets : List Tet) (rest : List Row) : Type 0 where
@@ -349,10 +349,10 @@ first_form rows nodes tets after_nodes after_tets row rest f version n t some no
       };
     }
 
-pub sections_mean : (rows : List Row) (numbers : List ℕ) (places : List V3) (tets : List Tet) → sections_at rows ≡ Some (nodes_of numbers places, tets) → All IsInTheBox places → IsFirstForm rows (record { numbers = numbers; places = places; tets = tets })
+pub sections_mean : (rows : List Row) (numbers : List ℕ) (places : List V3) (tets : List Tet) → sections_at rows ≡ Some (node_lists numbers places, tets) → All IsInTheBox places → IsFirstForm rows (record { numbers = numbers; places = places; tets = tets })
 unfolding sections_at
 sections_mean rows numbers places tets e in_box =
-    let whole : Nodes × List Tet = (nodes_of numbers places, tets) in
+    let whole : Nodes × List Tet = (node_lists numbers places, tets) in
     let end : Nodes → List Tet × List Row → Option (Nodes × List Tet) = λ n t. cond (length t.1 == 0) (Some (n, t.0)) None in
     bind_some (after_format rows) (λ r. node_section_at r >>= λ n. tet_section_at n.0.numbers n.1 >>= λ t. end n.0 t) whole e (λ rest format e.
     bind_some (node_section_at rest) (λ n. tet_section_at n.0.numbers n.1 >>= λ t. end n.0 t) whole e (λ n nodes e.

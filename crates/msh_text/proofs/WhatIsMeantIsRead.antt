@@ -14,7 +14,7 @@ use Rattle.space3.specs.declared.mesh.Mesh.{Mesh}
 use Rattle.space3.specs.Box.{IsInTheBox}
 use Rattle.space3.specs.Mesh.{IsSoundTet}
 use Rattle.msh_text.specs.FirstForm.{Row, node_of, tet_of, IsSection, IsFormat, IsCounted, IsFirstForm}
-use Rattle.msh_text.specs.Reading.{Nodes, nodes_of, begins, after_word, after_version, after_format, count_at, row_at, with_node, nodes_at, node_section_at, tet_at, tets_at, tet_section_at, sections_at}
+use Rattle.msh_text.specs.Calls.Sections.{Nodes, node_lists, begins, after_word, after_version, after_format, count_at, row_at, with_node, nodes_at, node_section_at, tet_at, tets_at, tet_section_at, sections_at}
 use Rattle.msh_text.proofs.Steps.{bytes_eq-same}
 use Rattle.msh_text.proofs.Different.{AreNew, AreNew-tail, AreNew-from_none, are_different-IsDistinct}
 
@@ -44,12 +44,12 @@ count_again limit items content rest c le = rw (c.rows, c.counted, le-leb _ _ le
 
 -- ---- nodes
 
-node_again : (ns : List ℕ) (ps : List V3) (n : ℕ × V3) → list_any (λ k. k == n.0) ns ≡ false → with_node (nodes_of ns ps) n ≡ Some (nodes_of (ns ++ n.0 ∷ []) (ps ++ n.1 ∷ []))
+node_again : (ns : List ℕ) (ps : List V3) (n : ℕ × V3) → list_any (λ k. k == n.0) ns ≡ false → with_node (node_lists ns ps) n ≡ Some (node_lists (ns ++ n.0 ∷ []) (ps ++ n.1 ∷ []))
 unfolding with_node
 node_again ns ps n fresh = rw fresh refl
 
 nodes_again : (rows : List Row) (ns : List ℕ) (ps : List V3) (nodes : List (ℕ × V3)) (rest : List Row) → map node_of rows ≡ map Some nodes → AreNew ns (map (λ (n : ℕ × V3). n.0) nodes)
-    → nodes_at (length rows) (nodes_of ns ps) (rows ++ rest) ≡ Some (nodes_of (ns ++ map (λ (n : ℕ × V3). n.0) nodes) (ps ++ map (λ (n : ℕ × V3). n.1) nodes), rest)
+    → nodes_at (length rows) (node_lists ns ps) (rows ++ rest) ≡ Some (node_lists (ns ++ map (λ (n : ℕ × V3). n.0) nodes) (ps ++ map (λ (n : ℕ × V3). n.1) nodes), rest)
 unfolding nodes_at row_at
 nodes_again [] ns ps [] rest e new = rw (append-nil ns, append-nil ps) refl
 nodes_again [] ns ps (n ∷ nodes) rest e new = absurd cc
@@ -70,14 +70,14 @@ pub record AreNodes (rows : List Row) (numbers : List ℕ) (places : List V3) : 
 length_nodes : (rows : List Row) (numbers : List ℕ) (places : List V3) → AreNodes rows numbers places → length rows ≡ length numbers
 length_nodes rows numbers places h = omega (arith, length-map rows node_of, ap length h.each, length-map (zip numbers places) (λ n. Some n), length-zip numbers places, h.placed)
 
-all_nodes_again : (rows : List Row) (numbers : List ℕ) (places : List V3) (rest : List Row) → AreNodes rows numbers places → nodes_at (length rows) (nodes_of [] []) (rows ++ rest) ≡ Some (nodes_of numbers places, rest)
+all_nodes_again : (rows : List Row) (numbers : List ℕ) (places : List V3) (rest : List Row) → AreNodes rows numbers places → nodes_at (length rows) (node_lists [] []) (rows ++ rest) ≡ Some (node_lists numbers places, rest)
 all_nodes_again rows numbers places rest h =
     let firsts : map (λ (n : ℕ × V3). n.0) (zip numbers places) ≡ numbers = firsts-zip numbers places (sym h.placed) in
     let seconds : map (λ (n : ℕ × V3). n.1) (zip numbers places) ≡ places = seconds-zip numbers places (sym h.placed) in
     let again = nodes_again rows [] [] (zip numbers places) rest h.each (rw firsts (AreNew-from_none numbers h.different)) in
     again ∙ rw (firsts, seconds) refl
 
-node_section_again : (rows content section : List Row) (numbers : List ℕ) (places : List V3) (rest : List Row) → IsSection (codes "Nodes") content section → IsCounted rows content → AreNodes rows numbers places → node_section_at (section ++ rest) ≡ Some (nodes_of numbers places, rest)
+node_section_again : (rows content section : List Row) (numbers : List ℕ) (places : List V3) (rest : List Row) → IsSection (codes "Nodes") content section → IsCounted rows content → AreNodes rows numbers places → node_section_at (section ++ rest) ≡ Some (node_lists numbers places, rest)
 unfolding node_section_at
 node_section_again rows content section numbers places rest s c h =
     let few : length rows ≤ 16384 = omega (arith, length_nodes rows numbers places h, h.few) in
@@ -127,7 +127,7 @@ tet_section_again rows content section numbers tets rest s c h =
 
 -- ---- the whole text
 
-pub first_form_reads : (rows : List Row) (mesh : Mesh) → IsFirstForm rows mesh → sections_at rows ≡ Some (nodes_of mesh.numbers mesh.places, mesh.tets)
+pub first_form_reads : (rows : List Row) (mesh : Mesh) → IsFirstForm rows mesh → sections_at rows ≡ Some (node_lists mesh.numbers mesh.places, mesh.tets)
 unfolding sections_at
 first_form_reads rows mesh f =
     let format = format_again f.format_row f.format_section (f.node_section ++ f.tet_section) f.format f.version in
@@ -153,7 +153,7 @@ pub no_mesh : (rows : List Row) (mesh : Mesh) → sections_at rows ≡ None → 
 no_mesh rows mesh none f = cc (first_form_reads rows mesh f)
 
 -- what is read with a place outside the box means no mesh
-pub no_mesh-outside : (rows : List Row) (numbers : List ℕ) (places : List V3) (tets : List Tet) (mesh : Mesh) → sections_at rows ≡ Some (nodes_of numbers places, tets) → (All IsInTheBox places → ⊥) → IsFirstForm rows mesh → ⊥
+pub no_mesh-outside : (rows : List Row) (numbers : List ℕ) (places : List V3) (tets : List Tet) (mesh : Mesh) → sections_at rows ≡ Some (node_lists numbers places, tets) → (All IsInTheBox places → ⊥) → IsFirstForm rows mesh → ⊥
 no_mesh-outside rows numbers places tets mesh read outside f =
     let same = same_Some _ _ (sym (first_form_reads rows mesh f) ∙ read) in
     outside (subst (All IsInTheBox) (ap (λ (x : Nodes × List Tet). x.0.places) same) f.in_box)

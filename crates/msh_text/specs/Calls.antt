@@ -1,0 +1,4 @@
+-- Words of the crate's own calls.
+pub mod Elements
+pub mod Growth
+pub mod Sections
