@@ -3,6 +3,7 @@ pub mod Decisions
 pub mod Elements
 pub mod Membership
 pub mod PairsOfElements
+pub mod Positions
 pub mod Pushes
 pub mod Searches
 pub mod StrictlySorted
