@@ -1,6 +1,7 @@
 pub mod Chains
 pub mod Decisions
 pub mod Elements
+pub mod Images
 pub mod Membership
 pub mod PairsOfElements
 pub mod Positions
@@ -8,3 +9,4 @@ pub mod Pushes
 pub mod Searches
 pub mod StrictlySorted
 pub mod Sums
+pub mod Writes

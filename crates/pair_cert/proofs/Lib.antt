@@ -1,6 +1,5 @@
 pub mod CornerMoves
 pub mod Halvings
-pub mod Lists
 pub mod Rooms
 pub mod Searches
 pub mod Separations

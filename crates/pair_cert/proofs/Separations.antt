@@ -12,7 +12,7 @@ use Rattle.safe_motion.specs.Moments.{place_at, places_at}
 use Rattle.safe_motion.specs.Certificates.{IsServed}
 use Rattle.plane_cut.specs.Planes.{HasPlane, IsPlane}
 use Rattle.pair_cert.specs.Calls.Moves.{IsAhead, IsShort, all_ends, moves_within, relative_move, relative_moves, within_interval}
-use Rattle.pair_cert.proofs.Lists.{All-images, All-images_back}
+use Rattle.list_laws.proofs.Images.{All-images, All-images_back}
 
 -- ---- ends as rows
 pub plane_of_ends : (n : V3) (moves : List Move) → All (IsAhead n) moves → IsPlane n (all_ends moves)

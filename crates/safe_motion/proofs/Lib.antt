@@ -5,6 +5,7 @@ pub mod ExampleLemmas
 pub mod HalfIntervals
 pub mod Halving
 pub mod Inside
+pub mod SearchByHalves
 pub mod Separation
 pub mod Standing
 pub mod VectorForms

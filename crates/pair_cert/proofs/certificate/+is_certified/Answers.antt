@@ -1,13 +1,14 @@
 use Rattle.std.proofs.Common.{◌≡◌, ◌∙◌, ℕ, ◌+◌, ◌*◌, ◌-◌, suc, map, sym, subst, ap, arith, rules}
 use Rattle.std.specs.Prelude.{All}
 use Rattle.safe_motion.specs.Certificates.{IsServed}
+use Rattle.safe_motion.proofs.SearchByHalves.{ends_early, ends_without, first_decides, second_decides}
 use Rattle.pair_cert.specs.declared.moves.Half.TheVariants.{First, Second}
 use Rattle.pair_cert.specs.Calls.Moves.{HasRoom}
 use Rattle.pair_cert.specs.Calls.Halves.{half_of, moves_in}
 use Rattle.pair_cert.specs.Tallies.{RisesAtMost, intervals_within}
 use Rattle.pair_cert.proofs.Halvings.{moves-first_half, moves-second_half}
 use Rattle.pair_cert.proofs.Rooms.{halves_room, room_for_one, short_now}
-use Rattle.pair_cert.proofs.Searches.{not_served, served, ends_early, ends_without, first_decides, second_decides}
+use Rattle.pair_cert.proofs.Searches.{not_served, served}
 use Rattle.pair_cert.proofs.Tallies.{one_interval, rises_more, rises_then, whole_and_halves}
 use Rattle.pair_cert.proofs.certificate.+is_certified.Goals as goal
 
