@@ -8,7 +8,8 @@ use Rattle.fixed_log.specs.declared.logarithm.TheConstants.{LN_2}
 unfoldable pub lg_bits : ℕ → ℕ → ℕ
 lg_bits zero y = 0
 lg_bits (suc n) y =
-    let z = y * y / 2 ^ 61 in elim (nat_le (2 ^ 62) z) [ true ↦ 2 ^ n + lg_bits n (z / 2) | false ↦ lg_bits n z ]
+    let z = y * y / 2 ^ 61 in
+    elim (nat_le (2 ^ 62) z) [ true ↦ 2 ^ n + lg_bits n (z / 2) | false ↦ lg_bits n z ]
 
 -- the place of the highest bit of m: 2 ^ whole_lg m ≤ m < 2 ^ (whole_lg m + 1)
 unfoldable pub whole_lg : ℕ → ℕ

@@ -1,4 +1,4 @@
--- The halves of an interval inherit a separating vector and positive Bernstein numbers.
+-- The halves of an interval inherit a separating vector and positive Bernstein coefficients.
 use Rattle.std.proofs.Common.{◌≡◌, ℕ, ◌+◌, ◌*◌, ◌<◌, ℤ, pos, ◌+ℤ◌, ◌-ℤ◌, ◌*ℤ◌, List, [], ◌∷◌, sym, subst, arith}
 use Rattle.space3.specs.Vectors.{vector, sum_of, difference, multiple}
 use Rattle.whole_laws.proofs.Ring.{ring, v, num, ◌⊕◌, ◌⊖◌, ◌⊗◌}

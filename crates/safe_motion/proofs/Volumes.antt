@@ -12,12 +12,12 @@ use Rattle.safe_motion.specs.Certificates.{edges_at, volume_at, ArePositive, Sta
 use Rattle.safe_motion.proofs.VectorForms.{components, Triple, at, ◌⊕₃◌, ◌⊗₃◌, det}
 use Rattle.safe_motion.proofs.Inside.{shares, early_share, late_share, blend, blend-between}
 
--- the middle Bernstein numbers of the edges s and t
-abbrev pub second_number : Edges → Edges → ℤ
-second_number s t = determinant t.u s.v s.w +ℤ determinant s.u t.v s.w +ℤ determinant s.u s.v t.w
+-- the middle Bernstein coefficients of the edges s and t
+abbrev pub second_coefficient : Edges → Edges → ℤ
+second_coefficient s t = determinant t.u s.v s.w +ℤ determinant s.u t.v s.w +ℤ determinant s.u s.v t.w
 
-abbrev pub third_number : Edges → Edges → ℤ
-third_number s t = determinant t.u t.v s.w +ℤ determinant t.u s.v t.w +ℤ determinant s.u t.v t.w
+abbrev pub third_coefficient : Edges → Edges → ℤ
+third_coefficient s t = determinant t.u t.v s.w +ℤ determinant t.u s.v t.w +ℤ determinant s.u t.v t.w
 
 -- k times the edges s, and l times the edges t, together
 abbrev blend_of_edges : ℤ → Edges → ℤ → Edges → Edges
@@ -53,9 +53,9 @@ second' a b = det b.0 a.1 a.2 ⊕ det a.0 b.1 a.2 ⊕ det a.0 a.1 b.2
 abbrev third' : Three → Three → Expr
 third' a b = det b.0 b.1 a.2 ⊕ det b.0 a.1 b.2 ⊕ det a.0 b.1 b.2
 
--- the determinant is a cubic in the two factors, whose numbers are the Bernstein numbers
+-- the determinant is a cubic in the two factors with the Bernstein coefficients
 bernstein : (k l : ℤ) (s t : Edges) → volume_of (blend_of_edges k s l t)
-    ≡ k *ℤ k *ℤ k *ℤ volume_of s +ℤ k *ℤ k *ℤ l *ℤ second_number s t +ℤ k *ℤ l *ℤ l *ℤ third_number s t +ℤ l *ℤ l *ℤ l *ℤ volume_of t
+    ≡ k *ℤ k *ℤ k *ℤ volume_of s +ℤ k *ℤ k *ℤ l *ℤ second_coefficient s t +ℤ k *ℤ l *ℤ l *ℤ third_coefficient s t +ℤ l *ℤ l *ℤ l *ℤ volume_of t
 bernstein k l s t =
     let a = from' 2 in
     let b = from' 11 in
@@ -91,7 +91,7 @@ edges-between t p q j n = λ i. record {
 pub volume-scaled : (k : ℤ) (e : Edges) → volume_of (scaled_edges k e) ≡ k *ℤ (k *ℤ (k *ℤ volume_of e))
 volume-scaled k e = ring (k ∷ components (e.u ∷ e.v ∷ e.w ∷ [])) (det (v 0 ⊗₃ at 1) (v 0 ⊗₃ at 4) (v 0 ⊗₃ at 7)) (v 0 ⊗ (v 0 ⊗ (v 0 ⊗ det (at 1) (at 4) (at 7)))) tt
 
--- positive Bernstein numbers of an interval make the volume positive at each moment inside
+-- positive Bernstein coefficients of an interval make the volume positive at each moment inside
 pub volume_inside : (t : Corners) (p q j n : ℕ) → IsInside p q j n → StaysPositive t j n → pos 0 <ℤ volume_at p q t
 volume_inside t p q j n h b =
     let cubic = cubic_pos (early_share p q j n) (late_share p q j n) _ _ _ _ (shares p q j n h) b.first b.second b.third b.fourth in
@@ -115,9 +115,9 @@ t' = from' 9
 abbrev middle' : Three
 middle' = (s'.0 ⊕₃ t'.0, s'.1 ⊕₃ t'.1, s'.2 ⊕₃ t'.2)
 
--- k, l, m and n times the Bernstein numbers
+-- k, l, m and n times the Bernstein coefficients
 abbrev pub weighted : ℕ → ℕ → ℕ → ℕ → Edges → Edges → ℤ
-weighted k l m n s t = pos k *ℤ volume_of s +ℤ pos l *ℤ second_number s t +ℤ pos m *ℤ third_number s t +ℤ pos n *ℤ volume_of t
+weighted k l m n s t = pos k *ℤ volume_of s +ℤ pos l *ℤ second_coefficient s t +ℤ pos m *ℤ third_coefficient s t +ℤ pos n *ℤ volume_of t
 
 abbrev weighted' : ℕ → ℕ → ℕ → ℕ → Expr
 weighted' k l m n = num (pos k) ⊗ volume' s' ⊕ num (pos l) ⊗ second' s' t' ⊕ num (pos m) ⊗ third' s' t' ⊕ num (pos n) ⊗ volume' t'
@@ -139,12 +139,12 @@ weighted_pos k l m n s t b h = positive k l m n _ _ _ _ b.first b.second b.third
         above : (k l m n : ℕ) (a b c d : ℤ) → pos k ≤ℤ a → pos l ≤ℤ b → pos m ≤ℤ c → pos n ≤ℤ d → 0 < k + l + m + n → pos 0 <ℤ (a +ℤ b +ℤ c +ℤ d)
         above k l m n a b c d ha hb hc hd h = omega (arith, ints)
 
--- the Bernstein numbers of the first half, where the edges are taken twice, are sums of those of the whole
-pub first_half_numbers : (s t : Edges) → (volume_of (scaled_edges (pos 2) s) ≡ weighted 8 0 0 0 s t)
-    × (second_number (scaled_edges (pos 2) s) (sum_of_edges s t) ≡ weighted 12 4 0 0 s t)
-    × (third_number (scaled_edges (pos 2) s) (sum_of_edges s t) ≡ weighted 6 4 2 0 s t)
+-- the Bernstein coefficients of the first half, where the edges are taken twice, are sums of those of the whole
+pub first_half_coefficients : (s t : Edges) → (volume_of (scaled_edges (pos 2) s) ≡ weighted 8 0 0 0 s t)
+    × (second_coefficient (scaled_edges (pos 2) s) (sum_of_edges s t) ≡ weighted 12 4 0 0 s t)
+    × (third_coefficient (scaled_edges (pos 2) s) (sum_of_edges s t) ≡ weighted 6 4 2 0 s t)
     × (volume_of (sum_of_edges s t) ≡ weighted 1 1 1 1 s t)
-first_half_numbers s t =
+first_half_coefficients s t =
     let xs = edge_variables s t in (
       ring xs (volume' (double' s')) (weighted' 8 0 0 0) tt,
       ring xs (second' (double' s') middle') (weighted' 12 4 0 0) tt,
@@ -153,11 +153,11 @@ first_half_numbers s t =
     )
 
 -- and of the second half
-pub second_half_numbers : (s t : Edges) → (volume_of (sum_of_edges s t) ≡ weighted 1 1 1 1 s t)
-    × (second_number (sum_of_edges s t) (scaled_edges (pos 2) t) ≡ weighted 0 2 4 6 s t)
-    × (third_number (sum_of_edges s t) (scaled_edges (pos 2) t) ≡ weighted 0 0 4 12 s t)
+pub second_half_coefficients : (s t : Edges) → (volume_of (sum_of_edges s t) ≡ weighted 1 1 1 1 s t)
+    × (second_coefficient (sum_of_edges s t) (scaled_edges (pos 2) t) ≡ weighted 0 2 4 6 s t)
+    × (third_coefficient (sum_of_edges s t) (scaled_edges (pos 2) t) ≡ weighted 0 0 4 12 s t)
     × (volume_of (scaled_edges (pos 2) t) ≡ weighted 0 0 0 8 s t)
-second_half_numbers s t =
+second_half_coefficients s t =
     let xs = edge_variables s t in (
       ring xs (volume' middle') (weighted' 1 1 1 1) tt,
       ring xs (second' middle' (double' t')) (weighted' 0 2 4 6) tt,
@@ -167,7 +167,7 @@ second_half_numbers s t =
 
 pub first_half : (s t : Edges) → ArePositive s t → ArePositive (scaled_edges (pos 2) s) (sum_of_edges s t)
 first_half s t b =
-    let sums = first_half_numbers s t in
+    let sums = first_half_coefficients s t in
     record {
       first = rw sums.0 (weighted_pos 8 0 0 0 s t b (omega arith));
       second = rw sums.1 (weighted_pos 12 4 0 0 s t b (omega arith));
@@ -177,7 +177,7 @@ first_half s t b =
 
 pub second_half : (s t : Edges) → ArePositive s t → ArePositive (sum_of_edges s t) (scaled_edges (pos 2) t)
 second_half s t b =
-    let sums = second_half_numbers s t in
+    let sums = second_half_coefficients s t in
     record {
       first = rw sums.0 (weighted_pos 1 1 1 1 s t b (omega arith));
       second = rw sums.1 (weighted_pos 0 2 4 6 s t b (omega arith));

@@ -34,7 +34,7 @@ edges_at p q t = record {
 abbrev pub volume_at : ℕ → ℕ → Corners → ℤ
 volume_at p q t = let e = edges_at p q t in determinant e.u e.v e.w
 
--- The four Bernstein numbers of the determinant between two moments are positive; the middle two are taken
+-- The four Bernstein coefficients of the determinant between two moments are positive; the middle two are taken
 -- three times.
 pub record ArePositive (s t : Edges) : Type 0 where
   pub first : pos 0 <ℤ determinant s.u s.v s.w
@@ -42,7 +42,7 @@ pub record ArePositive (s t : Edges) : Type 0 where
   pub third : pos 0 <ℤ (determinant t.u t.v s.w +ℤ determinant t.u s.v t.w +ℤ determinant s.u t.v t.w)
   pub fourth : pos 0 <ℤ determinant t.u t.v t.w
 
--- the Bernstein numbers of the interval from j / n to (j + 1) / n are positive
+-- the Bernstein coefficients of the interval from j / n to (j + 1) / n are positive
 abbrev pub StaysPositive : Corners → ℕ → ℕ → Type 0
 StaysPositive t j n = ArePositive (edges_at j n t) (edges_at (j + 1) n t)
 

@@ -28,6 +28,6 @@ pub use still_laws::{
     still_volumes_are_as_at_the_start,
 };
 pub use volume_laws::{
-    certified_volumes_stay_positive, positive_numbers_keep_the_volume,
+    certified_volumes_stay_positive, positive_coefficients_keep_the_volume,
     volume_certificates_are_by_halves, volume_certificates_deepen,
 };

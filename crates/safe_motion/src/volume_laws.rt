@@ -4,8 +4,8 @@ ghost use Rattle.safe_motion.specs.declared.motion.Corners.{Corners};
 ghost use Rattle.safe_motion.specs.Certificates.{ByHalves, StaysPositive, VolumeCertificate, volume_at};
 ghost use Rattle.safe_motion.specs.Moments.{IsFraction, IsInside};
 
-/// Where the Bernstein numbers of an interval are positive, the volume is positive at each moment inside.
-pub fn positive_numbers_keep_the_volume()
+/// Where the Bernstein coefficients of an interval are positive, the volume is positive at each moment inside.
+pub fn positive_coefficients_keep_the_volume()
     ensures { (t : Corners) (p q j n : ℕ) → IsInside p q j n → StaysPositive t j n →
         pos 0 <ℤ volume_at p q t }
 {}
@@ -21,7 +21,7 @@ pub fn volume_certificates_deepen()
     ensures { (depth : ℕ) (t : Corners) → VolumeCertificate depth t → VolumeCertificate (depth + 1) t }
 {}
 
-/// Halving downwards, which stops where the Bernstein numbers are positive, finds a certificate exactly
+/// Halving downwards, which stops where the Bernstein coefficients are positive, finds a certificate exactly
 /// where there is one.
 pub fn volume_certificates_are_by_halves()
     ensures { (depth : ℕ) (t : Corners) →

@@ -32,7 +32,10 @@ product_of m n = columns (times_vector m n.first) (times_vector m n.second) (tim
 
 -- the cofactors: each column is the cross product of the other two
 abbrev pub cofactors : M3 → M3
-cofactors m = columns (cross_product m.second m.third) (cross_product m.third m.first) (cross_product m.first m.second)
+cofactors m = columns
+    (cross_product m.second m.third)
+    (cross_product m.third m.first)
+    (cross_product m.first m.second)
 
 -- the transposed cofactors: times m, they give the determinant times the unit matrix
 abbrev pub adjugate : M3 → M3
@@ -40,7 +43,10 @@ adjugate m = transposed (cofactors m)
 
 -- the unit matrix times a number
 abbrev pub unit_times : ℤ → M3
-unit_times k = columns (vector k (pos 0) (pos 0)) (vector (pos 0) k (pos 0)) (vector (pos 0) (pos 0) k)
+unit_times k = columns
+    (vector k (pos 0) (pos 0))
+    (vector (pos 0) k (pos 0))
+    (vector (pos 0) (pos 0) k)
 
 -- the determinant: the triple product of the columns
 abbrev pub determinant_of : M3 → ℤ
@@ -48,4 +54,5 @@ determinant_of m = determinant m.first m.second m.third
 
 -- the sum of the squares of all entries
 abbrev pub sum_of_squares : M3 → ℤ
-sum_of_squares m = dot_product m.first m.first +ℤ dot_product m.second m.second +ℤ dot_product m.third m.third
+sum_of_squares m =
+    dot_product m.first m.first +ℤ dot_product m.second m.second +ℤ dot_product m.third m.third

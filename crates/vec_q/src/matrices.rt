@@ -64,7 +64,8 @@ impl<const F: u32, const B: u32> MatQ<F, B> {
         requires fraction { F3 ≡ F + F2 }
         requires sum { B + B2 + 2 ≤ B3 }
         requires width { B3 ≤ 126 }
-        ensures { raw_columns result ≡ product_of (raw_columns self.entry) (raw_columns other.entry) }
+        ensures { raw_columns result ≡
+            product_of (raw_columns self.entry) (raw_columns other.entry) }
     {
         MatQ {
             first: self.mul_vector_into(other.first),

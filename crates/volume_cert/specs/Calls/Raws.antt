@@ -11,4 +11,9 @@ edge_vectors e = record { u = raws e.u; v = raws e.v; w = raws e.w }
 
 -- the coefficients as whole numbers
 abbrev pub raw_coefficients : Coefficients → Bernstein
-raw_coefficients b = record { first = b.first.raw; second = b.second.raw; third = b.third.raw; fourth = b.fourth.raw }
+raw_coefficients b = record {
+  first = b.first.raw;
+  second = b.second.raw;
+  third = b.third.raw;
+  fourth = b.fourth.raw;
+}
