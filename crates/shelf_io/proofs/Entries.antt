@@ -60,18 +60,18 @@ set_first (e ∷ es) name (suc i) bytes h =
 pub push_new : (es : Entries) (name bytes : List ℕ) → get (map_of es) name ≡ None → map_of (es ++ (name, bytes) ∷ []) ≡ insert (map_of es) name bytes
 push_new es name bytes none = from_entries_push nat_list_cmp_total exact_names es name bytes (sym (get-from_entries nat_list_cmp_total es name) ∙ none)
 
-within : (es : Entries) (e : List ℕ × List ℕ) (k : ℕ) → slice_get es k ≡ Some e → k < length es
-within [] e k h = cc
-within (x ∷ es) e zero h = omega arith
-within (x ∷ es) e (suc k) h = omega (arith, within es e k h)
+entry_within : (es : Entries) (e : List ℕ × List ℕ) (k : ℕ) → slice_get es k ≡ Some e → k < length es
+entry_within [] e k h = cc
+entry_within (x ∷ es) e zero h = omega arith
+entry_within (x ∷ es) e (suc k) h = omega (arith, entry_within es e k h)
 
 pub first_within : (es : Entries) (name : List ℕ) (i : ℕ) → IsFirst es name i → i < length es
-first_within es name i h = within es (name, h.bytes) i h.here
+first_within es name i h = entry_within es (name, h.bytes) i h.here
 
 -- no entry has the name, where none of the first i has it and there are no more
 pub none_of_all : (es : Entries) (name : List ℕ) (i : ℕ) → length es ≤ i
     → ((k : ℕ) → k < i → (others : List ℕ) → slice_get es k ≡ Some (name, others) → ⊥) → get (map_of es) name ≡ None
-none_of_all es name i le none = get_none es name (λ k others h. none k (omega (arith, within es (name, others) k h)) others h)
+none_of_all es name i le none = get_none es name (λ k others h. none k (omega (arith, entry_within es (name, others) k h)) others h)
 
 -- one entry stands at one place
 one_entry : (o : Option (List ℕ × List ℕ)) (p q : List ℕ × List ℕ) → o ≡ Some p → o ≡ Some q → p ≡ q
@@ -94,12 +94,12 @@ pub file_at : (fs : List MemFile) (i : ℕ) (f : MemFile) → i < length fs → 
 file_at fs i f lt is = slice_get-map entry_of fs i ∙ ap (option_map entry_of) (slice_get_read fs (length fs) i f refl lt is)
 
 -- the file that was found has the name, and its bytes are those of the map
-pub record IsFound (fs : List MemFile) (name : List ℕ) (i : ℕ) (f : MemFile) : Type 0 where
+pub record IsNamedFile (fs : List MemFile) (name : List ℕ) (i : ℕ) (f : MemFile) : Type 0 where
   pub named : string_bytes f.name ≡ name
   pub bytes : get (files_of fs) name ≡ Some f.bytes.items
 
-pub found : (fs : List MemFile) (name : List ℕ) (i : ℕ) (f : MemFile) → IsFirst (entries_of fs) name i → f ≡ get_or fs i f → IsFound fs name i f
-found fs name i f h is =
+pub named_file : (fs : List MemFile) (name : List ℕ) (i : ℕ) (f : MemFile) → IsFirst (entries_of fs) name i → f ≡ get_or fs i f → IsNamedFile fs name i f
+named_file fs name i f h is =
     let lt : i < length fs = omega (arith, first_within (entries_of fs) name i h, entries_length fs) in
     let at = file_at fs i f lt is in
     let same = one_entry _ (string_bytes f.name, f.bytes.items) (name, h.bytes) at h.here in
@@ -109,8 +109,8 @@ found fs name i f h is =
     }
 
 -- another file in the place of the one that was found
-pub set_found : (fs : List MemFile) (name : List ℕ) (i : ℕ) (g : MemFile) → IsFirst (entries_of fs) name i → string_bytes g.name ≡ name → files_of (set fs i g) ≡ insert (files_of fs) name g.bytes.items
-set_found fs name i g h same =
+pub set_named_file : (fs : List MemFile) (name : List ℕ) (i : ℕ) (g : MemFile) → IsFirst (entries_of fs) name i → string_bytes g.name ≡ name → files_of (set fs i g) ≡ insert (files_of fs) name g.bytes.items
+set_named_file fs name i g h same =
     ap map_of (map-set entry_of fs i g ∙ ap (λ n. set (entries_of fs) i (n, g.bytes.items)) same)
     ∙ set_first (entries_of fs) name i g.bytes.items h
 

@@ -38,15 +38,15 @@ insert_twice fs k v w = same_map nat_list_cmp_total exact_names _ _ (λ q.
     ∙ twice (eq_by_cmp (slice_cmp nat_cmp) q k) v w (get fs q)
     ∙ sym (get-insert nat_list_cmp_total fs k w q))
 
-chosen : (b : Bool) (o p : Option (List ℕ)) → (b ≡ true → o ≡ p) → cond b o p ≡ p
-chosen true o p same = same refl
-chosen false o p same = refl
+cond_same : (b : Bool) (o p : Option (List ℕ)) → (b ≡ true → o ≡ p) → cond b o p ≡ p
+cond_same true o p same = same refl
+cond_same false o p same = refl
 
 -- a file set to what it holds
 pub insert_same : (fs : Files) (k v : List ℕ) → get fs k ≡ Some v → insert fs k v ≡ fs
 insert_same fs k v is = same_map nat_list_cmp_total exact_names _ _ (λ q.
     get-insert nat_list_cmp_total fs k v q
-    ∙ chosen (eq_by_cmp (slice_cmp nat_cmp) q k) (Some v) (get fs q) (λ tie. sym is ∙ ap (get fs) (sym (tied q k tie))))
+    ∙ cond_same (eq_by_cmp (slice_cmp nat_cmp) q k) (Some v) (get fs q) (λ tie. sym is ∙ ap (get fs) (sym (tied q k tie))))
 
 -- a name that differs doesn't tie
 other_name : (a b : List ℕ) → (a ≡ b → ⊥) → eq_by_cmp (slice_cmp nat_cmp) a b ≡ false

@@ -4,7 +4,7 @@ use Rattle.shelf_io.specs.MemView.{entries_of, files_of}
 use Rattle.shelf_io.specs.Calls.{IsFirst}
 use Rattle.shelf_io.specs.declared.mem_files.MemFile.{MemFile}
 use Rattle.shelf_io.proofs.FileWrites.{added_there}
-use Rattle.shelf_io.proofs.Entries.{found, set_found, set_alike}
+use Rattle.shelf_io.proofs.Entries.{named_file, set_named_file, set_alike}
 use Rattle.shelf_io.proofs.mem_files.add_bytes.Goals as goal
 
 pub returns-in-Ok-clause-ok : goal.returns-in-Ok-clause-ok
@@ -13,8 +13,8 @@ returns-in-Ok-clause-ok c =
     let name = c.args.name.now in
     let f = c.index_mut-file.result.now in
     let h : IsFirst (entries_of fs) name c.in-Some.i = subst (λ (fs : List MemFile). IsFirst (entries_of fs) c.args.name.now c.in-Some.i) c.deref.ensures.value c.in-Some.ensures.some in
-    let is = found fs name c.in-Some.i f h c.index_mut-file.ensures.value in
-    set_found fs name c.in-Some.i _ h is.named
+    let is = named_file fs name c.in-Some.i f h c.index_mut-file.ensures.value in
+    set_named_file fs name c.in-Some.i _ h is.named
     ∙ ap (insert (files_of fs) name) c.in-Ok.ensures.items
     ∙ sym (added_there (files_of fs) name f.bytes.items c.args.piece.now is.bytes)
 
