@@ -2,6 +2,8 @@
 use Rattle.std.proofs.Common.{◌≡◌, ℕ, ◌+◌, ◌^◌, ℤ, pos, ◌+ℤ◌, ◌≤ℤ◌, ◌<ℤ◌, List, ◌⊎◌, inl, inr, refl, unsigned_abs}
 use Rattle.std.proofs.Math.Decide.{dec_le}
 use Rattle.std.proofs.Math.IntN.{ℤ_discrete}
+use Rattle.space3.specs.declared.places.TheConstants.{BOX_LIMIT}
+use Rattle.space3.specs.declared.ways.TheConstants.{HALVING_LIMIT}
 use Rattle.space3.specs.declared.vectors.V3.{V3}
 use Rattle.space3.specs.Vectors.{AtMost, Within, vector, origin, determinant}
 use Rattle.space3.specs.Box.{IsInTheBox}
@@ -16,7 +18,6 @@ use Rattle.surface_mesh.specs.Edges.{has_edges_within}
 use Rattle.potential_sum.specs.Terms.{FrameTerms}
 use Rattle.potential_sum.specs.Potential.{potential, gradient}
 use Rattle.line_search.specs.declared.step.Step.{Step}
-use Rattle.line_search.specs.declared.halvings.TheConstants.{MOST_HALVINGS}
 use Rattle.volume_cert.specs.declared.edges.TheConstants.{LONGEST_EDGE}
 use Rattle.line_search.specs.Accepted.{IsAllowed, IsAccepted, IsFirstAccepted, HasNoAccepted}
 use Rattle.line_search.specs.Upright.{HasShortEdges}
@@ -62,7 +63,7 @@ pub dec_IsAllowed : (setup : Setup) (terms : FrameTerms) (x y : List V3) → Dec
 dec_IsAllowed setup terms x y =
     dec_along
     (dec_four
-    (dec_All IsInTheBox (dec_Within (2 ^ 20)) y)
+    (dec_All IsInTheBox (dec_Within BOX_LIMIT) y)
     (dec_All (λ tet. HasShortEdges y tet.nodes) (λ tet. dec_IsTrue (has_edges_within LONGEST_EDGE y tet.nodes)) setup.mesh.tets)
     (dec_All (λ tet. VolumeCertificate DEPTH (corners x y tet.nodes)) (λ tet. dec_VolumeCertificate DEPTH (corners x y tet.nodes)) setup.mesh.tets)
     (dec_lt_ℤ (potential setup terms y) (potential setup terms x)))
@@ -79,7 +80,7 @@ dec_IsAccepted setup terms x direction half =
 -- some halving is the least that is accepted, or none is accepted
 pub first_or_none : (setup : Setup) (terms : FrameTerms) (x direction : List V3) → ((half : ℕ) × IsFirstAccepted setup terms x direction half) ⊎ HasNoAccepted setup terms x direction
 first_or_none setup terms x direction =
-    elim (least_or_none (IsAccepted setup terms x direction) (dec_IsAccepted setup terms x direction) MOST_HALVINGS) [
+    elim (least_or_none (IsAccepted setup terms x direction) (dec_IsAccepted setup terms x direction) HALVING_LIMIT) [
       | inl found ↦ inl (found.0, record { few = found.1; accepted = found.2.holds; least = found.2.least })
       | inr none ↦ inr none
     ]

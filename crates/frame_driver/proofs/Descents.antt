@@ -13,19 +13,9 @@ use Rattle.frame_driver.specs.Frames.{GoesOn, HasNoStep, IsAtRest, places_after}
 use Rattle.frame_driver.specs.Calls.Descents.{Descends, HasCome, LeadsOn}
 
 -- ---- the steps so far
--- none at the start
-pub none_yet : (s : Setup) (tol : ℤ) (terms : FrameTerms) (now x : List V3) → x ≡ now → IsPose s now → HasCome s tol terms now x 0
-none_yet s tol terms now x e pose = record {
-  steps = [];
-  follow = tt;
-  counted = refl;
-  last = sym e;
-  pose = subst (IsPose s) (sym e) pose;
-}
-
 -- one more
-pub one_more : (s : Setup) (tol : ℤ) (terms : FrameTerms) (now x : List V3) (step : Step) (taken : ℕ) → HasCome s tol terms now x taken → LeadsOn s tol terms x step → HasCome s tol terms now step.places (taken + 1)
-one_more s tol terms now x step taken come next = record {
+pub HasCome-push : (s : Setup) (tol : ℤ) (terms : FrameTerms) (now x : List V3) (step : Step) (taken : ℕ) → HasCome s tol terms now x taken → LeadsOn s tol terms x step → HasCome s tol terms now step.places (taken + 1)
+HasCome-push s tol terms now x step taken come next = record {
   steps = come.steps ++ step ∷ [];
   follow = Follow-push places_after (GoesOn s tol terms) now come.steps step come.follow (subst (λ (a : List V3). GoesOn s tol terms a step) (sym come.last) next.goes_on);
   counted = length-append come.steps (step ∷ []) ∙ ap (λ n. n + 1) come.counted;
@@ -40,10 +30,6 @@ at_budget s tol terms now x taken budget l m come =
     subst (λ (n : ℕ). HasCome s tol terms now x n) e come
 
 -- ---- the ends
-pub converges : (s : Setup) (tol : ℤ) (budget : ℕ) (terms : FrameTerms) (now x : List V3) (taken : ℕ) → HasCome s tol terms now x taken → taken ≤ budget
-    → IsAtRest s tol terms x → Descends s tol budget terms now x (ends.Converged taken)
-converges s tol budget terms now x taken come few rest = record { taken = taken; come = come; few = few; ends = (refl, rest) }
-
 pub stalls : (s : Setup) (tol : ℤ) (budget : ℕ) (terms : FrameTerms) (now x : List V3) (taken : ℕ) → HasCome s tol terms now x taken → taken ≤ budget
     → ¬ IsAtRest s tol terms x × HasNoStep s terms x → Descends s tol budget terms now x (ends.Stalled taken)
 stalls s tol budget terms now x taken come few found = record { taken = taken; come = come; few = few; ends = (refl, found.0, found.1) }

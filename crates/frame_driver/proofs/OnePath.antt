@@ -1,5 +1,5 @@
 -- There is only one path of so many frames.
-use Rattle.std.proofs.Common.{◌≡◌, ℕ, suc, ℤ, List, [], ◌∷◌, length, sym, ◌∙◌, subst, refl, arith}
+use Rattle.std.proofs.Common.{◌≡◌, ℕ, ◌≤◌, ℤ, List, length, sym, ◌∙◌, subst, refl, arith, le_refl}
 use Rattle.list_laws.proofs.Chains.{EndsBefore, one_chain}
 use Rattle.space3.specs.declared.vectors.V3.{V3}
 use Rattle.surface_mesh.specs.declared.setup.Setup.{Setup}
@@ -10,7 +10,7 @@ use Rattle.frame_driver.specs.declared.end.FrameEnd.{FrameEnd}
 use Rattle.frame_driver.specs.declared.end.FrameEnd.TheVariants as ends
 use Rattle.frame_driver.specs.Directions.{jacobi}
 use Rattle.frame_driver.specs.Frames.{Frame, IsFrame, GoesOn, HasStep, HasNoStep, EndsAt, last_after, places_after}
-use Rattle.frame_driver.specs.Paths.{FramesFrom}
+use Rattle.frame_driver.specs.Paths.{FramesFrom, after_frame}
 
 -- where there is a step, it isn't so that there is none
 not_both : (setup : Setup) (terms : FrameTerms) (x : List V3) → HasStep setup terms x → HasNoStep setup terms x → ⊥
@@ -47,19 +47,12 @@ one_frame setup tol budget now before a b f g =
     (subst (λ (s : List Step). EndsAt setup tol budget terms (length s) (last_after now s) a.end) steps f.ends) g.ends in
     λ i. record { steps = steps i; end = end i }
 
-one_less : (m n : ℕ) → suc m ≡ suc n → m ≡ n
-one_less m n e = omega arith
-
-not_none : (n : ℕ) → suc n ≡ 0 → ⊥
-not_none n e = cc
-
 -- and one path of as many frames
 pub one_path_from : (setup : Setup) (tol : ℤ) (budget : ℕ) (now before : List V3) (fs gs : List Frame) → length fs ≡ length gs → FramesFrom setup tol budget now before fs → FramesFrom setup tol budget now before gs → fs ≡ gs
-one_path_from setup tol budget now before [] [] e h k = refl
-one_path_from setup tol budget now before [] (b ∷ gs) e h k = absurd (not_none (length gs) (sym e))
-one_path_from setup tol budget now before (a ∷ fs) [] e h k = absurd (not_none (length fs) e)
-one_path_from setup tol budget now before (a ∷ fs) (b ∷ gs) e h k =
-    let frame : a ≡ b = one_frame setup tol budget now before a b h.0 k.0 in
-    let rest : fs ≡ gs = one_path_from setup tol budget (last_after now a.steps) now fs gs (one_less (length fs) (length gs) e) h.1
-    (subst (λ (c : Frame). FramesFrom setup tol budget (last_after now c.steps) now gs) (sym frame) k.1) in
-    λ i. frame i ∷ rest i
+one_path_from setup tol budget now before fs gs e h k =
+    one_chain after_frame (λ (start : List V3 × List V3) (frame : Frame). IsFrame setup tol budget start.0 start.1 frame)
+    (λ start a b f g. one_frame setup tol budget start.0 start.1 a b f g) (length fs) (now, before) fs gs (le_refl (length fs)) (no_more (length fs) (length gs) e) h k
+    (λ frame f. refl) (λ frame f. sym e)
+  where
+    no_more : (m n : ℕ) → m ≡ n → n ≤ m
+    no_more m n e = omega arith

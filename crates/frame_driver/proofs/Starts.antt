@@ -10,14 +10,17 @@ use Rattle.std.proofs.lemmas.Slice.Zip.{length-zip}
 use Rattle.std.proofs.lemmas.List.Elements.{All-weaker}
 use Rattle.list_laws.proofs.Elements.{All-map_back}
 use Rattle.whole_laws.proofs.Order.{size_diff}
+use Rattle.space3.specs.declared.places.TheConstants.{BOX_LIMIT}
 use Rattle.space3.specs.declared.vectors.V3.{V3}
 use Rattle.space3.specs.declared.lists.Tet.{Tet}
 use Rattle.space3.specs.Vectors.{AtMost, Within, difference}
 use Rattle.space3.specs.Mesh.{rest_determinant}
+use Rattle.surface_mesh.specs.declared.ranges.TheConstants.{FARTHEST_BEFORE, FASTEST}
 use Rattle.surface_mesh.specs.declared.setup.Setup.{Setup}
+use Rattle.surface_mesh.specs.declared.sturdy.TheConstants.{LEAST_REST, LONGEST_REST}
 use Rattle.surface_mesh.specs.Edges.{edges_of, has_edges_within, is_within}
 use Rattle.surface_mesh.specs.Setup.{IsSetup, rest_of}
-use Rattle.surface_mesh.specs.Sturdy.{IsSturdy, least_rest, longest_rest}
+use Rattle.surface_mesh.specs.Sturdy.{IsSturdy}
 use Rattle.surface_mesh.proofs.SetupFacts.{velocity_length}
 use Rattle.volume_cert.specs.declared.edges.TheConstants.{LONGEST_EDGE}
 use Rattle.line_search.specs.Upright.{HasShortEdges, IsPose}
@@ -25,17 +28,17 @@ use Rattle.frame_driver.specs.Paths.{first_before}
 
 -- ---- vectors
 -- a place is near
-pub place_is_near : (a : V3) → Within (2 ^ 20) a → Within 1114112 a
+pub place_is_near : (a : V3) → Within BOX_LIMIT a → Within FARTHEST_BEFORE a
 place_is_near a h = record { x = each a.x h.x; y = each a.y h.y; z = each a.z h.z }
   where
-    each : (a : ℤ) → AtMost (2 ^ 20) a → AtMost 1114112 a
+    each : (a : ℤ) → AtMost BOX_LIMIT a → AtMost FARTHEST_BEFORE a
     each a h = record { bound = omega (arith, h.bound) }
 
 -- and so is a place less a velocity
-pub place_before_is_near : (a b : V3) → Within (2 ^ 20) a → Within 65536 b → Within 1114112 (difference a b)
+pub place_before_is_near : (a b : V3) → Within BOX_LIMIT a → Within FASTEST b → Within FARTHEST_BEFORE (difference a b)
 place_before_is_near a b h k = record { x = each a.x b.x h.x k.x; y = each a.y b.y h.y k.y; z = each a.z b.z h.z k.z }
   where
-    each : (a b : ℤ) → AtMost (2 ^ 20) a → AtMost 65536 b → AtMost 1114112 (a -ℤ b)
+    each : (a b : ℤ) → AtMost BOX_LIMIT a → AtMost FASTEST b → AtMost FARTHEST_BEFORE (a -ℤ b)
     each a b h k = record { bound = omega (arith, size_diff a b, h.bound, k.bound) }
 
 -- ---- the pose at the start
@@ -58,20 +61,20 @@ edges_more m n places nodes l h = each (edges_of places nodes) h
         let parts = and_parts (is_within m v) (list_all (is_within m) vs) e in
         both_true (within_more m n v l parts.0) (each vs parts.1)
 
-positive : (rest : ℤ) → least_rest ≤ℤ rest → pos 0 <ℤ rest
+positive : (rest : ℤ) → LEAST_REST ≤ℤ rest → pos 0 <ℤ rest
 positive rest h = omega (arith, ints)
 
 -- sturdy bodies may stand at the mesh's places
 pub first_pose : (s : Setup) → IsSetup s → IsSturdy s → IsPose s s.mesh.places
 first_pose s built sturdy =
     let Upright : Tet → Type 0 = λ tet. pos 0 <ℤ rest_determinant s.mesh.places tet.nodes in
-    let thick : All (λ tet. least_rest ≤ℤ rest_of s.mesh tet) s.mesh.tets =
-    All-map_back (λ rest. least_rest ≤ℤ rest) (rest_of s.mesh) s.mesh.tets (subst (All (λ rest. least_rest ≤ℤ rest)) (ap (λ (t : Setup). t.rest) built.built) sturdy.rest) in
+    let thick : All (λ tet. LEAST_REST ≤ℤ rest_of s.mesh tet) s.mesh.tets =
+    All-map_back (λ rest. LEAST_REST ≤ℤ rest) (rest_of s.mesh) s.mesh.tets (subst (All (λ rest. LEAST_REST ≤ℤ rest)) (ap (λ (t : Setup). t.rest) built.built) sturdy.rest) in
     record {
       each = sym built.mesh_is_sound.placed;
-      upright = All-weaker (λ tet. least_rest ≤ℤ rest_of s.mesh tet) Upright (λ tet h. positive (rest_of s.mesh tet) h) s.mesh.tets thick;
-      edges = All-weaker (λ tet. IsTrue (has_edges_within longest_rest s.mesh.places tet.nodes)) (λ tet. HasShortEdges s.mesh.places tet.nodes)
-          (λ tet h. edges_more longest_rest LONGEST_EDGE s.mesh.places tet.nodes (lit≤ tt) h) s.mesh.tets sturdy.edges;
+      upright = All-weaker (λ tet. LEAST_REST ≤ℤ rest_of s.mesh tet) Upright (λ tet h. positive (rest_of s.mesh tet) h) s.mesh.tets thick;
+      edges = All-weaker (λ tet. IsTrue (has_edges_within LONGEST_REST s.mesh.places tet.nodes)) (λ tet. HasShortEdges s.mesh.places tet.nodes)
+          (λ tet h. edges_more LONGEST_REST LONGEST_EDGE s.mesh.places tet.nodes (lit≤ tt) h) s.mesh.tets sturdy.edges;
     }
 
 -- ---- the places before

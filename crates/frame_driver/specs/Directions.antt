@@ -5,7 +5,7 @@ use Rattle.num_q.specs.Rounding.{round_of, cut_of}
 use Rattle.space3.specs.declared.vectors.V3.{V3}
 use Rattle.space3.specs.Vectors.{vector, origin}
 use Rattle.surface_mesh.specs.declared.setup.Setup.{Setup}
-use Rattle.surface_mesh.specs.Setup.{nodes_of}
+use Rattle.surface_mesh.specs.Setup.{node_positions}
 use Rattle.potential_sum.specs.Terms.{FrameTerms}
 use Rattle.potential_sum.specs.Potential.{mass_at, gradient_at}
 
@@ -31,4 +31,4 @@ jacobi_at setup terms places node =
 
 -- the direction, one vector per node
 abbrev pub jacobi : Setup → FrameTerms → List V3 → List V3
-jacobi setup terms places = map (jacobi_at setup terms places) (nodes_of setup.mesh)
+jacobi setup terms places = map (jacobi_at setup terms places) (node_positions setup.mesh)

@@ -1,5 +1,5 @@
 -- A path: frame after frame.
-use Rattle.std.specs.Prelude.{ℕ, ℤ, List, [], ◌∷◌, map, zip, ⊤}
+use Rattle.std.specs.Prelude.{ℕ, ℤ, List, map, zip}
 use Rattle.list_laws.specs.Chains.{Follow}
 use Rattle.space3.specs.declared.vectors.V3.{V3}
 use Rattle.space3.specs.Vectors.{difference}
@@ -8,16 +8,23 @@ use Rattle.line_search.specs.declared.step.Step.{Step}
 use Rattle.line_search.specs.Upright.{StaysUpright}
 use Rattle.frame_driver.specs.Frames.{Frame, IsFrame, last_after, places_after}
 
+-- each place less the velocity there
+abbrev pub less_velocities : (places velocity : List V3) → List V3
+less_velocities places velocity = map (λ node. difference node.0 node.1) (zip places velocity)
+
 -- the places before the first frame: the mesh's places less the velocities
 abbrev pub first_before : Setup → List V3
-first_before setup = map (λ node. difference node.0 node.1) (zip setup.mesh.places setup.velocity)
+first_before setup = less_velocities setup.mesh.places setup.velocity
+
+-- where a frame leads from the places at its start and those before: to its last places, and those at its start
+abbrev pub after_frame : List V3 × List V3 → Frame → List V3 × List V3
+after_frame start frame = (last_after start.0 frame.steps, start.0)
 
 -- The frames follow one another from the places `now` after the places `before`: each begins at the last places of
 -- the one before it, after the places at that one's start.
 abbrev pub FramesFrom : Setup → (tol : ℤ) (budget : ℕ) → (now before : List V3) → List Frame → Type 0
-FramesFrom setup tol budget now before [] = ⊤
-FramesFrom setup tol budget now before (frame ∷ frames) =
-    IsFrame setup tol budget now before frame × FramesFrom setup tol budget (last_after now frame.steps) now frames
+FramesFrom setup tol budget now before frames =
+    Follow after_frame (λ start frame. IsFrame setup tol budget start.0 start.1 frame) (now, before) frames
 
 -- the path of so many frames from the start
 abbrev pub IsPath : Setup → (tol : ℤ) (budget : ℕ) → List Frame → Type 0
@@ -27,8 +34,10 @@ IsPath setup tol budget frames = FramesFrom setup tol budget setup.mesh.places (
 abbrev pub StepsStayUpright : Setup → (now : List V3) → List Step → Type 0
 StepsStayUpright setup now steps = Follow places_after (λ x step. StaysUpright setup x step.places) now steps
 
+-- the last places of a frame from the places x
+abbrev pub last_places : List V3 → Frame → List V3
+last_places x frame = last_after x frame.steps
+
 -- on each step of each frame
 abbrev pub StayUprightFrom : Setup → (now : List V3) → List Frame → Type 0
-StayUprightFrom setup now [] = ⊤
-StayUprightFrom setup now (frame ∷ frames) =
-    StepsStayUpright setup now frame.steps × StayUprightFrom setup (last_after now frame.steps) frames
+StayUprightFrom setup now frames = Follow last_places (λ x frame. StepsStayUpright setup x frame.steps) now frames

@@ -2,6 +2,7 @@
 use Rattle.std.specs.Prelude.{◌≡◌, ℕ, ℤ, List, length, All}
 use Rattle.space3.specs.declared.vectors.V3.{V3}
 use Rattle.space3.specs.Vectors.{Within}
+use Rattle.surface_mesh.specs.declared.ranges.TheConstants.{FARTHEST_BEFORE}
 use Rattle.surface_mesh.specs.declared.setup.Setup.{Setup}
 use Rattle.surface_mesh.specs.Setup.{IsSetup}
 use Rattle.surface_mesh.specs.Sturdy.{IsSturdy}
@@ -19,10 +20,13 @@ pub record SimState : Type 0 where
   pub places : List V3
   pub before : List V3
 
+abbrev pub state_of : Setup → (tol : ℤ) (budget : ℕ) (places before : List V3) → SimState
+state_of setup tol budget places before =
+    record { setup = setup; tol = tol; budget = budget; places = places; before = before }
+
 -- the start of a path
-abbrev pub start_of : Setup → ℤ → ℕ → SimState
-start_of setup tol budget =
-    record { setup = setup; tol = tol; budget = budget; places = setup.mesh.places; before = first_before setup }
+abbrev pub start_of : Setup → (tol : ℤ) (budget : ℕ) → SimState
+start_of setup tol budget = state_of setup tol budget setup.mesh.places (first_before setup)
 
 -- what a simulation keeps
 pub record IsSim (sim : SimState) : Type 0 where
@@ -30,7 +34,7 @@ pub record IsSim (sim : SimState) : Type 0 where
   pub sturdy : IsSturdy sim.setup
   pub pose : IsPose sim.setup sim.places
   pub each_before : length sim.before ≡ length sim.setup.mesh.numbers
-  pub near : All (Within 1114112) sim.before
+  pub near : All (Within FARTHEST_BEFORE) sim.before
 
 -- one frame with this end led from the old state to the new one
 pub record Advances (end : FrameEnd) (old new : SimState) : Type 0 where

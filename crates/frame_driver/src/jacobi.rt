@@ -1,8 +1,9 @@
 //! Jacobi's direction: each component of the gradient over the matrix's diagonal entry.
 ghost use Rattle.std.specs.Prelude.{◌≡◌, ◌<◌, ◌-◌, ◌+◌, ◌*◌, ◌^◌, ◌≤ℤ◌, ◌<ℤ◌, pos, false, length, All, IfOk, unsigned_abs, slice_index_or};
+ghost use Rattle.space3.specs.declared.ways.TheConstants.{DIRECTION_LIMIT};
 ghost use Rattle.space3.specs.Vectors.{AtMost, Within};
-ghost use Rattle.surface_mesh.specs.Materials.{IsFrom};
-ghost use Rattle.surface_mesh.specs.Sturdy.{most_mass};
+ghost use Rattle.whole_laws.specs.Ranges.{IsFrom};
+ghost use Rattle.surface_mesh.specs.declared.sturdy.TheConstants.{MOST_MASS};
 ghost use Rattle.std.specs.Int.{int_max};
 ghost use Rattle.frame_driver.specs.Directions.{jacobi_component};
 ghost use Rattle.frame_driver.specs.Calls.Slopes.{diagonal_of, direction_at, directions_of, BelongTogether};
@@ -20,7 +21,7 @@ pub(crate) fn directions(
 ) -> Result<Vec<V3>, AllocError>
     requires { BelongTogether mass.now fixed.now slopes.now }
     ensures value { IfOk result (λ made. made.items ≡ directions_of mass.now fixed.now slopes.now) }
-    ensures short { IfOk result (λ made. All (Within (2 ^ 21 - 1)) made.items) }
+    ensures short { IfOk result (λ made. All (Within DIRECTION_LIMIT) made.items) }
 {
     let mut made = Vec::with_capacity(alloc, mass.len())?;
     for node in 0..mass.len() {
@@ -34,7 +35,7 @@ fn node_direction(mass: &[i128], fixed: &[bool], slopes: &[i128], node: usize) -
     requires there { node < length mass.now }
     requires lists { BelongTogether mass.now fixed.now slopes.now }
     ensures value { result ≡ direction_at mass.now fixed.now slopes.now node }
-    ensures short { Within (2 ^ 21 - 1) result }
+    ensures short { Within DIRECTION_LIMIT result }
 {
     let entry = diagonal(mass[node], fixed[node]);
     V3 {
@@ -46,7 +47,7 @@ fn node_direction(mass: &[i128], fixed: &[bool], slopes: &[i128], node: usize) -
 
 // The matrix's diagonal entry of a node. A mass is so small that nothing is cut.
 fn diagonal(mass: i128, fixed: bool) -> Q<0, 60>
-    requires { IsFrom (pos 0) most_mass mass }
+    requires { IsFrom (pos 0) MOST_MASS mass }
     ensures { result.raw ≡ diagonal_of mass fixed }
 {
     Q::of_raw(if fixed { 1 } else { 2 * mass })
@@ -63,7 +64,7 @@ fn slope_at(slopes: &[i128], i: usize) -> Q<0, 91>
 // A component of the direction.
 fn component(diagonal: Q<0, 60>, slope: Q<0, 91>) -> i64
     ensures value { result ≡ jacobi_component diagonal.raw slope.raw }
-    ensures short { AtMost (2 ^ 21 - 1) result }
+    ensures short { AtMost DIRECTION_LIMIT result }
 {
     let exact: Q<0, 91> = slope.neg().round_into(divisor(diagonal));
     let cut: Q<0, 21> = exact.cut_into();

@@ -8,14 +8,15 @@ ghost use Rattle.frame_driver.specs.Paths.{FramesFrom, StayUprightFrom};
 /// From all places, after all places, there is a path of so many frames.
 pub fn there_is_a_path()
     ensures { (setup : Setup) (tol : ℤ) (budget : ℕ) (now before : List V3) (count : ℕ) →
-        (frames : List Frame) × (length frames ≡ count) × FramesFrom setup tol budget now before frames }
+        (frames : List Frame) × (length frames ≡ count) ×
+        FramesFrom setup tol budget now before frames }
 {}
 
 /// There is only one.
 pub fn one_path()
     ensures { (setup : Setup) (tol : ℤ) (budget : ℕ) (now before : List V3) (a b : List Frame) →
-        length a ≡ length b → FramesFrom setup tol budget now before a → FramesFrom setup tol budget now before b →
-        a ≡ b }
+        length a ≡ length b →
+        FramesFrom setup tol budget now before a → FramesFrom setup tol budget now before b → a ≡ b }
 {}
 
 /// On each step of a path every tetrahedron's volume is positive at every fraction.

@@ -24,13 +24,13 @@ pub struct Sim {
 }
 
 impl Model for Sim {
-    ghost use Rattle.frame_driver.specs.Sims.{SimState, IsSim};
+    ghost use Rattle.frame_driver.specs.Sims.{SimState, IsSim, state_of};
 
     ghost Value = { SimState };
 
-    ghost view = { λ s. record { setup = s.setup; tol = s.tol; budget = s.budget; places = s.places; before = s.before.items } };
+    ghost view = { λ s. state_of s.setup s.tol s.budget s.places s.before.items };
 
-    ghost invariant = { λ s. IsSim (record { setup = s.setup; tol = s.tol; budget = s.budget; places = s.places; before = s.before.items }) };
+    ghost invariant = { λ s. IsSim (state_of s.setup s.tol s.budget s.places s.before.items) };
 }
 
 impl Sim {

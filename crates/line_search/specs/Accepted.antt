@@ -1,5 +1,6 @@
 -- Which halving of a direction is taken.
 use Rattle.std.specs.Prelude.{◌≡◌, ◌<◌, ◌≤◌, ◌<ℤ◌, ℕ, List, All, Any}
+use Rattle.space3.specs.declared.ways.TheConstants.{HALVING_LIMIT}
 use Rattle.space3.specs.declared.vectors.V3.{V3}
 use Rattle.space3.specs.Vectors.{origin}
 use Rattle.space3.specs.Box.{IsInTheBox}
@@ -10,7 +11,6 @@ use Rattle.safe_motion.specs.Safety.{corners}
 use Rattle.surface_mesh.specs.declared.setup.Setup.{Setup}
 use Rattle.potential_sum.specs.Terms.{FrameTerms}
 use Rattle.potential_sum.specs.Potential.{potential}
-use Rattle.line_search.specs.declared.halvings.TheConstants.{MOST_HALVINGS}
 use Rattle.line_search.specs.Upright.{HasShortEdges}
 
 -- A step from the places x to the places y is allowed: it stays in the box, no edge gets too long, each tetrahedron
@@ -28,11 +28,11 @@ pub record IsAccepted (setup : Setup) (terms : FrameTerms) (x direction : List V
 
 -- the least accepted halving
 pub record IsFirstAccepted (setup : Setup) (terms : FrameTerms) (x direction : List V3) (half : ℕ) : Type 0 where
-  pub few : half ≤ MOST_HALVINGS
+  pub few : half ≤ HALVING_LIMIT
   pub accepted : IsAccepted setup terms x direction half
   pub least : (earlier : ℕ) → earlier < half → ¬ IsAccepted setup terms x direction earlier
 
 -- no halving is accepted
 abbrev pub HasNoAccepted : Setup → FrameTerms → (x direction : List V3) → Type 0
 HasNoAccepted setup terms x direction =
-    (half : ℕ) → half ≤ MOST_HALVINGS → ¬ IsAccepted setup terms x direction half
+    (half : ℕ) → half ≤ HALVING_LIMIT → ¬ IsAccepted setup terms x direction half

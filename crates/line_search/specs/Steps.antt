@@ -1,5 +1,6 @@
 -- The step of a direction.
 use Rattle.std.specs.Prelude.{◌≡◌, ◌-◌, ◌^◌, List, length, All}
+use Rattle.space3.specs.declared.ways.TheConstants.{DIRECTION_LIMIT}
 use Rattle.space3.specs.declared.vectors.V3.{V3}
 use Rattle.space3.specs.Vectors.{Within}
 use Rattle.space3.specs.Moved.{moved_by}
@@ -22,7 +23,7 @@ pub record AreReady (setup : Setup) (terms : FrameTerms) (x : List V3) : Type 0 
 -- a direction: one vector for each of the places x, each component below 2^21 in absolute value
 pub record IsDirection (x direction : List V3) : Type 0 where
   pub each : length direction ≡ length x
-  pub short : All (Within (2 ^ 21 - 1)) direction
+  pub short : All (Within DIRECTION_LIMIT) direction
 
 -- the step of the least accepted halving of a direction, with the potentials before and after
 pub record IsFirstStep (setup : Setup) (terms : FrameTerms) (x along : List V3) (step : Step) : Type 0 where

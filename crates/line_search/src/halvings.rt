@@ -1,5 +1,6 @@
 //! The halvings of a direction.
 ghost use Rattle.std.specs.Prelude.{◌≡◌, ◌≤◌, ◌↔◌, IfOk, IfSome, IsSome, IfNone, IsTrue, Any};
+ghost use Rattle.space3.specs.declared.ways.TheConstants.{HALVING_LIMIT};
 ghost use Rattle.potential_sum.specs.Potential.{potential};
 ghost use Rattle.line_search.specs.Accepted.{HasNoAccepted, IsAccepted};
 ghost use Rattle.line_search.specs.Calls.Halvings.{IsFirstHalving, IsHalving, Moves};
@@ -7,12 +8,9 @@ ghost use Rattle.line_search.specs.Steps.{AreReady, IsDirection};
 
 use crate::allowed::lower_if_allowed;
 use potential_sum::Terms;
-use space3::{Places, V3, halved};
+use space3::{HALVING_LIMIT, Places, V3, halved};
 use std::alloc::{AllocError, Global};
 use surface_mesh::Setup;
-
-/// The most halvings of a direction. A component is below 2^21, so one more would move no node.
-pub const MOST_HALVINGS: u8 = 20;
 
 const ORIGIN: V3 = V3 { x: 0, y: 0, z: 0 };
 
@@ -37,10 +35,12 @@ pub(crate) fn first_halving(
     requires ready { AreReady setup.now terms.now x.now }
     requires direction { IsDirection x.now direction.now }
     requires upper { upper ≡ potential setup.now terms.now x.now }
-    ensures first { IfOk result (λ found. IfSome found (IsFirstHalving setup.now terms.now x.now direction.now)) }
-    ensures exhausted { IfOk result (λ found. IfNone found (HasNoAccepted setup.now terms.now x.now direction.now)) }
+    ensures first { IfOk result (λ found.
+        IfSome found (IsFirstHalving setup.now terms.now x.now direction.now)) }
+    ensures exhausted { IfOk result (λ found.
+        IfNone found (HasNoAccepted setup.now terms.now x.now direction.now)) }
 {
-    for half in 0..MOST_HALVINGS + 1 {
+    for half in 0..HALVING_LIMIT + 1 {
         if let Some(halving) = accepted_halving(alloc, setup, terms, x, direction, half, upper)? {
             return Ok(Some(halving));
         }
@@ -60,10 +60,12 @@ fn accepted_halving(
 ) -> Result<Option<Halving>, AllocError>
     requires ready { AreReady setup.now terms.now x.now }
     requires direction { IsDirection x.now direction.now }
-    requires few { half ≤ MOST_HALVINGS }
+    requires few { half ≤ HALVING_LIMIT }
     requires upper { upper ≡ potential setup.now terms.now x.now }
-    ensures accepted { IfOk result (λ found. IsSome found ↔ IsAccepted setup.now terms.now x.now direction.now half) }
-    ensures halving { IfOk result (λ found. IfSome found (IsHalving setup.now terms.now x.now direction.now half)) }
+    ensures accepted { IfOk result (λ found.
+        IsSome found ↔ IsAccepted setup.now terms.now x.now direction.now half) }
+    ensures halving { IfOk result (λ found.
+        IfSome found (IsHalving setup.now terms.now x.now direction.now half)) }
 {
     if !moves(direction, half) {
         return Ok(None);
@@ -83,7 +85,7 @@ fn accepted_halving(
 
 // Whether the halved direction moves some node.
 fn moves(direction: &[V3], half: u8) -> bool
-    requires { half ≤ MOST_HALVINGS }
+    requires { half ≤ HALVING_LIMIT }
     ensures { IsTrue result ↔ Any (Moves half) direction.now }
 {
     direction.iter().any(|d| is_moved(*d, half))
@@ -91,7 +93,7 @@ fn moves(direction: &[V3], half: u8) -> bool
 
 // Whether the halved direction moves a node.
 fn is_moved(d: V3, half: u8) -> bool
-    requires { half ≤ MOST_HALVINGS }
+    requires { half ≤ HALVING_LIMIT }
     ensures { IsTrue result ↔ Moves half d }
 {
     halved(d, half) != ORIGIN

@@ -5,5 +5,4 @@ mod allowed;
 mod halvings;
 mod step;
 
-pub use halvings::MOST_HALVINGS;
 pub use step::{Step, first_step};

@@ -43,8 +43,10 @@ pub fn first_step(
     requires ready { AreReady setup.now terms.now x.now }
     requires direction { IsDirection x.now direction }
     requires upper { upper ≡ potential setup.now terms.now x.now }
-    ensures first { IfOk result (λ step. IfSome step (IsFirstStep setup.now terms.now x.now direction)) }
-    ensures exhausted { IfOk result (λ step. IfNone step (HasNoAccepted setup.now terms.now x.now direction)) }
+    ensures first { IfOk result (λ step.
+        IfSome step (IsFirstStep setup.now terms.now x.now direction)) }
+    ensures exhausted { IfOk result (λ step.
+        IfNone step (HasNoAccepted setup.now terms.now x.now direction)) }
     // At every fraction of the step each volume is positive.
     ensures upright { IfOk result (λ step. IfSome step (λ s. StaysUpright setup.now x.now s.places)) }
     ensures pose { IfOk result (λ step. IfSome step (λ s. IsPose setup.now s.places)) }

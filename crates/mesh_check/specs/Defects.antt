@@ -3,7 +3,7 @@ use Rattle.std.specs.Prelude.{◌≡◌, ℕ, pos, not, int_lt, int_le, position
 use Rattle.std.specs.Option.{option_or}
 use Rattle.surface_mesh.specs.declared.setup.Setup.{Setup}
 use Rattle.surface_mesh.specs.Edges.{has_edges_within}
-use Rattle.surface_mesh.specs.Sturdy.{least_rest, longest_rest, most_mass}
+use Rattle.surface_mesh.specs.declared.sturdy.TheConstants.{LEAST_REST, LONGEST_REST, MOST_MASS}
 use Rattle.mesh_check.specs.declared.defects.Defect.{Defect}
 use Rattle.mesh_check.specs.declared.defects.Defect.TheVariants as defects
 
@@ -13,15 +13,16 @@ first_not_positive setup = position (λ rest. int_le rest (pos 0)) setup.rest
 
 -- the first tetrahedron that is too thin
 abbrev pub first_thin : Setup → Option ℕ
-first_thin setup = position (λ rest. int_lt rest least_rest) setup.rest
+first_thin setup = position (λ rest. int_lt rest LEAST_REST) setup.rest
 
 -- the first tetrahedron with an edge that is too long
 abbrev pub first_long : Setup → Option ℕ
-first_long setup = position (λ tet. not (has_edges_within longest_rest setup.mesh.places tet.nodes)) setup.mesh.tets
+first_long setup =
+    position (λ tet. not (has_edges_within LONGEST_REST setup.mesh.places tet.nodes)) setup.mesh.tets
 
 -- the first node that is too heavy
 abbrev pub first_heavy : Setup → Option ℕ
-first_heavy setup = position (λ mass. int_lt most_mass mass) setup.mass
+first_heavy setup = position (λ mass. int_lt MOST_MASS mass) setup.mass
 
 -- the first defect: the first tetrahedron that isn't positive, else the first thin one, else the first long one,
 -- else the first heavy node

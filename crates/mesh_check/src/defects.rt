@@ -1,13 +1,14 @@
 //! Defects of a setup, in the order in which they are looked for.
 ghost use Rattle.std.specs.Prelude.{◌≡◌, ◌^◌, ◌<◌, None, pos, not, int_lt, int_le, position, All, IfSome};
 ghost use Rattle.space3.specs.Mesh.{HasNodes};
+ghost use Rattle.surface_mesh.specs.declared.sturdy.TheConstants.{LEAST_REST, LONGEST_REST, MOST_MASS};
 ghost use Rattle.surface_mesh.specs.Edges.{has_edges_within};
 ghost use Rattle.surface_mesh.specs.Setup.{IsSetup};
-ghost use Rattle.surface_mesh.specs.Sturdy.{IsSturdy, least_rest, longest_rest, most_mass};
+ghost use Rattle.surface_mesh.specs.Sturdy.{IsSturdy};
 ghost use Rattle.mesh_check.specs.Defects.{first_defect};
 
 use space3::{Places, Tet};
-use surface_mesh::{Setup, has_edges_within};
+use surface_mesh::{LEAST_REST, LONGEST_REST, MOST_MASS, Setup, has_edges_within};
 
 /// Why a mesh is no start. Tetrahedra and nodes are positions in the mesh's lists.
 #[derive(Clone, Copy, PartialEq, Eq, Debug)]
@@ -22,49 +23,6 @@ pub enum Defect {
     TooHeavy { node: u32 },
 }
 
-const LEAST_REST: i128 = 262_144;
-
-const LONGEST_REST: u32 = 16_384;
-
-const MOST_MASS: i128 = 1 << 58;
-
-fn first_not_positive(rest: &[i128]) -> Option<usize>
-    ensures { result ≡ position (λ rest. int_le rest (pos 0)) rest.now }
-{
-    rest.iter().position(|rest| *rest <= 0)
-}
-
-fn first_thin(rest: &[i128]) -> Option<usize>
-    ensures { result ≡ position (λ rest. int_lt rest least_rest) rest.now }
-{
-    rest.iter().position(|rest| *rest < LEAST_REST)
-}
-
-fn first_long(places: &Places, tets: &[Tet]) -> Option<usize>
-    requires { All (λ tet. HasNodes places.now tet.nodes) tets.now }
-    ensures { result ≡ position (λ tet. not (has_edges_within longest_rest places.now tet.nodes)) tets.now }
-{
-    tets.iter()
-        .position(|tet| !has_edges_within(places, tet, LONGEST_REST))
-}
-
-fn first_heavy(mass: &[i128]) -> Option<usize>
-    ensures { result ≡ position (λ mass. int_lt most_mass mass) mass.now }
-{
-    mass.iter().position(|mass| MOST_MASS < *mass)
-}
-
-// A position in fewer bits.
-fn number(found: Option<usize>) -> Option<u32>
-    requires { IfSome found (λ i. i < 2 ^ 32) }
-    ensures { result ≡ found }
-{
-    match found {
-        Some(i) => Some(i as u32),
-        None => None,
-    }
-}
-
 /// The first defect: the first tetrahedron that isn't positive, else the first thin one, else the first long one,
 /// else the first node that is too heavy.
 pub fn first_defect(setup: &Setup) -> Option<Defect>
@@ -73,18 +31,56 @@ pub fn first_defect(setup: &Setup) -> Option<Defect>
     ensures sturdy { result ≡ None → IsSturdy setup.now }
 {
     let rest = setup.rest.items();
-    if let Some(tet) = number(first_not_positive(rest)) {
+    if let Some(tet) = short_position(first_not_positive(rest)) {
         return Some(Defect::NotPositive { tet });
     }
-    if let Some(tet) = number(first_thin(rest)) {
+    if let Some(tet) = short_position(first_thin(rest)) {
         return Some(Defect::Thin { tet });
     }
     let mesh = &setup.mesh;
-    if let Some(tet) = number(first_long(&mesh.places, mesh.tets.items())) {
+    if let Some(tet) = short_position(first_long(&mesh.places, mesh.tets.items())) {
         return Some(Defect::Long { tet });
     }
-    if let Some(node) = number(first_heavy(setup.mass.items())) {
+    if let Some(node) = short_position(first_heavy(setup.mass.items())) {
         return Some(Defect::TooHeavy { node });
     }
     None
+}
+
+fn first_not_positive(rest: &[i128]) -> Option<usize>
+    ensures { result ≡ position (λ rest. int_le rest (pos 0)) rest.now }
+{
+    rest.iter().position(|rest| *rest <= 0)
+}
+
+fn first_thin(rest: &[i128]) -> Option<usize>
+    ensures { result ≡ position (λ rest. int_lt rest LEAST_REST) rest.now }
+{
+    rest.iter().position(|rest| *rest < LEAST_REST)
+}
+
+fn first_long(places: &Places, tets: &[Tet]) -> Option<usize>
+    requires { All (λ tet. HasNodes places.now tet.nodes) tets.now }
+    ensures { result ≡
+        position (λ tet. not (has_edges_within LONGEST_REST places.now tet.nodes)) tets.now }
+{
+    tets.iter()
+        .position(|tet| !has_edges_within(places, tet, LONGEST_REST))
+}
+
+fn first_heavy(mass: &[i128]) -> Option<usize>
+    ensures { result ≡ position (λ mass. int_lt MOST_MASS mass) mass.now }
+{
+    mass.iter().position(|mass| MOST_MASS < *mass)
+}
+
+// A position that was found, in fewer bits.
+fn short_position(found: Option<usize>) -> Option<u32>
+    requires { IfSome found (λ i. i < 2 ^ 32) }
+    ensures { result ≡ found }
+{
+    match found {
+        Some(i) => Some(i as u32),
+        None => None,
+    }
 }

@@ -4,6 +4,3 @@
 mod defects;
 
 pub use defects::{Defect, first_defect};
-
-#[cfg(test)]
-mod tests;

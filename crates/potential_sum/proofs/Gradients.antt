@@ -12,7 +12,7 @@ use Rattle.space3.specs.declared.vectors.V3.{V3}
 use Rattle.space3.specs.Vectors.{AtMost, dot_product}
 use Rattle.space3.specs.Mesh.{place_of}
 use Rattle.surface_mesh.specs.declared.setup.Setup.{Setup}
-use Rattle.surface_mesh.specs.Setup.{nodes_of}
+use Rattle.surface_mesh.specs.Setup.{node_positions}
 use Rattle.potential_sum.specs.Inertia.{inertia_gradient, inertia_pull, offset_of}
 use Rattle.potential_sum.specs.Terms.{FrameTerms}
 use Rattle.potential_sum.specs.Potential.{components, gradient, gradient_at, inertia_at, mass_at}
@@ -42,7 +42,7 @@ three s terms places node =
 -- three numbers per node
 pub length-gradient : (s : Setup) (terms : FrameTerms) (places : List V3) → length (gradient s terms places) ≡ 3 * length s.mesh.numbers
 length-gradient s terms places =
-    length-threes (gradient_at s terms places) (nodes_of s.mesh) (three s terms places) ∙ ap (λ n. 3 * n) (length-range_with_len 0 (length s.mesh.numbers))
+    length-threes (gradient_at s terms places) (node_positions s.mesh) (three s terms places) ∙ ap (λ n. 3 * n) (length-range_with_len 0 (length s.mesh.numbers))
 
 -- those of a node stand at 3 times its position
 pub gradient_stands : (s : Setup) (terms : FrameTerms) (places : List V3) (node k : ℕ) (d : ℤ) → node < length s.mesh.numbers → k < 3 → get_or (gradient s terms places) (3 * node + k) d ≡ get_or (gradient_at s terms places node) k d
@@ -75,7 +75,7 @@ gradient_at_is_small s terms places node =
 
 -- each number of a gradient is
 pub gradient_is_small : (s : Setup) (terms : FrameTerms) (places : List V3) → All (AtMost (2 ^ 90)) (gradient s terms places)
-gradient_is_small s terms places = joined (nodes_of s.mesh)
+gradient_is_small s terms places = joined (node_positions s.mesh)
   where
     joined : (nodes : List ℕ) → All IsSmall (flat_map (gradient_at s terms places) nodes)
     joined [] = All-nil IsSmall

@@ -1,4 +1,2 @@
-pub mod Example
 pub mod Gradients
 pub mod Targets
-pub mod Totals

@@ -1,4 +1,3 @@
-pub mod Example
 pub mod Inertia
 pub mod Potential
 pub mod Terms

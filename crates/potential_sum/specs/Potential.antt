@@ -3,8 +3,8 @@ use Rattle.std.specs.Prelude.{ℕ, ℤ, pos, List, [], ◌∷◌, map, flat_map,
 use Rattle.space3.specs.declared.vectors.V3.{V3}
 use Rattle.space3.specs.Mesh.{place_of}
 use Rattle.surface_mesh.specs.declared.setup.Setup.{Setup}
-use Rattle.surface_mesh.specs.Setup.{nodes_of}
-use Rattle.surface_mesh.specs.Sums.{total}
+use Rattle.surface_mesh.specs.Setup.{node_positions}
+use Rattle.list_laws.specs.Sums.{total}
 use Rattle.potential_sum.specs.Inertia.{inertia_energy, inertia_gradient}
 use Rattle.potential_sum.specs.Terms.{FrameTerms}
 
@@ -19,7 +19,7 @@ inertia_at setup terms places node =
 
 -- the potential where the nodes stand at these places: the sum over all nodes
 abbrev pub potential : Setup → FrameTerms → List V3 → ℤ
-potential setup terms places = total (map (inertia_at setup terms places) (nodes_of setup.mesh))
+potential setup terms places = total (map (inertia_at setup terms places) (node_positions setup.mesh))
 
 -- the three components of a vector
 abbrev pub components : V3 → List ℤ
@@ -33,4 +33,4 @@ gradient_at setup terms places node =
 
 -- the gradient, three numbers per node
 abbrev pub gradient : Setup → FrameTerms → List V3 → List ℤ
-gradient setup terms places = flat_map (gradient_at setup terms places) (nodes_of setup.mesh)
+gradient setup terms places = flat_map (gradient_at setup terms places) (node_positions setup.mesh)

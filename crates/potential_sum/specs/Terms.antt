@@ -3,6 +3,7 @@ use Rattle.std.specs.Prelude.{◌≡◌, ◌^◌, List, map, zip, length, All}
 use Rattle.space3.specs.declared.vectors.V3.{V3}
 use Rattle.space3.specs.Vectors.{Within}
 use Rattle.surface_mesh.specs.declared.setup.Setup.{Setup}
+use Rattle.potential_sum.specs.declared.terms.TheConstants.{FARTHEST_TARGET}
 use Rattle.potential_sum.specs.Inertia.{target_of}
 
 -- the terms of a frame: one target per node, in 1/256 grid unit
@@ -17,7 +18,7 @@ targets_of gravity now before = map (λ node. target_of gravity node.0 node.1) (
 abbrev pub terms_of : Setup → (now before : List V3) → FrameTerms
 terms_of setup now before = record { targets = targets_of setup.numbers.gravity now before }
 
--- the terms are of this setup, and targets are within 2^30
+-- the terms are of this setup, and no target is too far
 pub record StandFor (setup : Setup) (terms : FrameTerms) : Type 0 where
   pub each : length terms.targets ≡ length setup.mesh.numbers
-  pub near : All (Within (2 ^ 30)) terms.targets
+  pub near : All (Within FARTHEST_TARGET) terms.targets

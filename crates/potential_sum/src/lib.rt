@@ -2,8 +2,8 @@
 #![tactic(auto)]
 
 mod inertia;
+mod laws;
 mod terms;
-#[cfg(test)]
-mod tests;
 
-pub use terms::Terms;
+pub use laws::{a_node_falls, inertia_is_rounded_down};
+pub use terms::{FARTHEST_TARGET, Terms};

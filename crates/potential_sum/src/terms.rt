@@ -2,9 +2,11 @@
 ghost use Rattle.std.specs.Prelude.{◌≡◌, ◌<◌, ◌^◌, pos, IfOk, OnErr, OnOk, All, length};
 ghost use Rattle.space3.specs.Vectors.{Within};
 ghost use Rattle.space3.specs.Mesh.{place_of};
-ghost use Rattle.surface_mesh.specs.Materials.{IsFrom};
+ghost use Rattle.whole_laws.specs.Ranges.{IsFrom};
+ghost use Rattle.surface_mesh.specs.declared.ranges.TheConstants.{FARTHEST_BEFORE, MOST_GRAVITY};
+ghost use Rattle.surface_mesh.specs.declared.sturdy.TheConstants.{MOST_MASS};
 ghost use Rattle.surface_mesh.specs.Setup.{IsSetup};
-ghost use Rattle.surface_mesh.specs.Sturdy.{IsSturdy, most_mass};
+ghost use Rattle.surface_mesh.specs.Sturdy.{IsSturdy};
 ghost use Rattle.potential_sum.specs.Terms.{StandFor, targets_of, terms_of};
 ghost use Rattle.potential_sum.specs.Potential.{gradient, gradient_at, inertia_at, mass_at, potential};
 
@@ -13,6 +15,10 @@ use space3::{Places, V3};
 use std::alloc::{AllocError, Global};
 use std::marker::Model;
 use surface_mesh::Setup;
+
+/// The greatest component of a target, in 1/256 grid unit. It is 512 times a place, less 256 times a place before, and
+/// gravity, with room to spare.
+pub const FARTHEST_TARGET: u32 = 1 << 30;
 
 /// What the potential of a frame is made of beside its bodies: one target per node.
 #[derive(Drop)]
@@ -35,11 +41,11 @@ fn targets_of(
     now: &Places,
     before: &[V3],
 ) -> Result<Vec<V3>, AllocError>
-    requires gravity { Within (2 ^ 20) gravity }
+    requires gravity { Within MOST_GRAVITY gravity }
     requires as_many { length before.now ≡ length now.now }
-    requires before { All (Within 1114112) before.now }
+    requires before { All (Within FARTHEST_BEFORE) before.now }
     ensures targets { IfOk result (λ made. made.items ≡ targets_of gravity now.now before.now) }
-    ensures near { IfOk result (λ made. All (Within (2 ^ 30)) made.items) }
+    ensures near { IfOk result (λ made. All (Within FARTHEST_TARGET) made.items) }
 {
     let mut made = Vec::with_capacity(alloc, before.len())?;
     for node in 0..now.len() {
@@ -51,9 +57,9 @@ fn targets_of(
 // The mass of a node.
 fn mass_at(setup: &Setup, node: u32) -> i128
     requires there { node < length setup.now.mass }
-    requires masses { All (IsFrom (pos 0) most_mass) setup.now.mass }
+    requires masses { All (IsFrom (pos 0) MOST_MASS) setup.now.mass }
     ensures value { result ≡ mass_at setup.now node }
-    ensures in_range { IsFrom (pos 0) most_mass result }
+    ensures in_range { IsFrom (pos 0) MOST_MASS result }
 {
     setup.mass.items()[node as usize]
 }
@@ -70,7 +76,7 @@ impl Terms {
         requires built { IsSetup setup.now }
         requires placed { length now.now ≡ length setup.now.mesh.numbers }
         requires each_before { length before.now ≡ length setup.now.mesh.numbers }
-        requires near { All (Within 1114112) before.now }
+        requires near { All (Within FARTHEST_BEFORE) before.now }
         ensures terms { IfOk result (λ terms. terms ≡ terms_of setup.now now.now before.now) }
         ensures stand { IfOk result (StandFor setup.now) }
     {
@@ -89,17 +95,17 @@ impl Terms {
     // The target of a node.
     fn target_at(&self, node: u32) -> V3
         requires there { node < length self.now.targets }
-        requires targets { All (Within (2 ^ 30)) self.now.targets }
+        requires targets { All (Within FARTHEST_TARGET) self.now.targets }
         ensures value { result ≡ place_of self.now.targets node }
-        ensures bound { Within (2 ^ 30) result }
+        ensures bound { Within FARTHEST_TARGET result }
     {
         self.targets[node as usize]
     }
 
     // What inertia adds to the potential at a node.
     fn inertia_at(&self, setup: &Setup, x: &Places, node: u32) -> i128
-        requires masses { All (IsFrom (pos 0) most_mass) setup.now.mass }
-        requires targets { All (Within (2 ^ 30)) self.now.targets }
+        requires masses { All (IsFrom (pos 0) MOST_MASS) setup.now.mass }
+        requires targets { All (Within FARTHEST_TARGET) self.now.targets }
         requires mass { node < length setup.now.mass }
         requires place { node < length x.now }
         requires target { node < length self.now.targets }
@@ -125,8 +131,8 @@ impl Terms {
 
     // The gradient at a node.
     fn gradient_at(&self, setup: &Setup, x: &Places, node: u32) -> [i128; 3]
-        requires masses { All (IsFrom (pos 0) most_mass) setup.now.mass }
-        requires targets { All (Within (2 ^ 30)) self.now.targets }
+        requires masses { All (IsFrom (pos 0) MOST_MASS) setup.now.mass }
+        requires targets { All (Within FARTHEST_TARGET) self.now.targets }
         requires mass { node < length setup.now.mass }
         requires flag { node < length setup.now.fixed }
         requires place { node < length x.now }

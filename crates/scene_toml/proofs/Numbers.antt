@@ -5,7 +5,7 @@ use Rattle.std.specs.Int.{IsNonNegative}
 use Rattle.std.specs.Prelude.{unsigned_abs}
 use mir.Syntax.{Width}
 use mir.Val.{bits}
-use Rattle.surface_mesh.specs.Materials.{IsFrom}
+use Rattle.whole_laws.specs.Ranges.{IsFrom}
 
 -- a number from 0 to 2^62 stays the same in 64 bits
 pub stays : (least most n : ℤ) → IsFrom least most n → pos 0 ≤ℤ least → most ≤ℤ pos (2 ^ 62) → to_z w64 (of_z w64 n) ≡ n

@@ -1,7 +1,8 @@
 -- The scene that a text means, or its first fault.
 use Rattle.std.specs.Prelude.{◌≡◌, List, length, ℕ, ◌^◌, ◌≤◌, pos, Option, Some, None, Result, Ok, Err}
 use Rattle.toml.specs.Data.{Members}
-use Rattle.surface_mesh.specs.Materials.{AreNumbers, IsFrom}
+use Rattle.whole_laws.specs.Ranges.{IsFrom}
+use Rattle.surface_mesh.specs.Materials.{AreNumbers}
 use Rattle.scene_toml.specs.declared.keys.TheConstants.{NAME_LIMIT, FRAME_LIMIT, BUDGET_LIMIT, TOL_LIMIT}
 use Rattle.scene_toml.specs.declared.refusal.SceneErr.{SceneErr}
 use Rattle.scene_toml.specs.declared.refusal.SceneErr.TheVariants.{NotToml, UnknownKey}

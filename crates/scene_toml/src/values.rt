@@ -1,7 +1,7 @@
 //! The value at a key, or why it is refused.
 ghost use Rattle.std.specs.Prelude.{◌≡◌, IfOk};
 ghost use Rattle.toml.specs.View.{items_view, table_view};
-ghost use Rattle.surface_mesh.specs.Materials.{IsFrom};
+ghost use Rattle.whole_laws.specs.Ranges.{IsFrom};
 ghost use Rattle.scene_toml.specs.declared.refusal.ReadSceneErr.TheVariants.{Scene};
 ghost use Rattle.scene_toml.specs.declared.refusal.SceneErr.TheVariants.{Missing, WrongType};
 ghost use Rattle.scene_toml.specs.Gives.{Gives};

@@ -1,7 +1,5 @@
-pub mod Dealing
-pub mod Examples
-pub mod Passing
+pub mod FirstTets
+pub mod GivenShares
 pub mod SetupFacts
+pub mod ShareLists
 pub mod ShortEdges
-pub mod SoFar
-pub mod Taken

@@ -8,7 +8,8 @@ use Rattle.std.specs.Option.{option_map_or}
 use Rattle.std.specs.Ordering.{int_eq}
 use Rattle.std.proofs.lemmas.List.FromFn.{length-map-range_with_len}
 use Rattle.std.proofs.lemmas.List.Elements.{All-head, All-tail, All-map, All-filter, All-weaker, All-same}
-use Rattle.whole_laws.proofs.Order.{mul_nonneg_ℤ, add_nonneg_ℤ}
+use Rattle.list_laws.proofs.Sums.{total_nonneg}
+use Rattle.whole_laws.proofs.Order.{mul_nonneg_ℤ}
 use Rattle.list_laws.proofs.Elements.{All-map_back}
 use Rattle.space3.specs.declared.vectors.V3.{V3}
 use Rattle.space3.specs.declared.lists.Tet.{Tet}
@@ -18,9 +19,9 @@ use Rattle.space3.specs.Vectors.{AtMost, Within, origin}
 use Rattle.surface_mesh.specs.declared.materials.Material.{Material}
 use Rattle.surface_mesh.specs.declared.materials.Numbers.{Numbers}
 use Rattle.surface_mesh.specs.declared.setup.Setup.{Setup}
+use Rattle.surface_mesh.specs.declared.ranges.TheConstants.{FASTEST}
 use Rattle.surface_mesh.specs.Materials.{AreNumbers, IsMaterial, material_of, physical_tag}
-use Rattle.surface_mesh.specs.Setup.{IsSetup, has_node, is_fixed, mass_of, nodes_of, rest_of, setup_of, tets_at, velocity_of, weight_of}
-use Rattle.surface_mesh.specs.Sums.{total}
+use Rattle.surface_mesh.specs.Setup.{IsSetup, has_node, is_fixed, mass_of, node_positions, rest_of, setup_of, tets_at, velocity_of, weight_of}
 
 -- ---- lengths
 pub rest_length : (s : Setup) → IsSetup s → length s.rest ≡ length s.mesh.tets
@@ -50,15 +51,11 @@ material_is_in_range numbers tet h =
     found (λ part. IsMaterial part.1) IsMaterial (λ part. part.1) numbers.base (λ part. int_eq part.0 (physical_tag tet)) numbers.parts (λ part p. p) h.parts h.base
 
 -- ---- masses
-total_nonneg : (xs : List ℤ) → All (λ x. pos 0 ≤ℤ x) xs → pos 0 ≤ℤ total xs
-total_nonneg [] h = record { le = tt }
-total_nonneg (x ∷ xs) h = add_nonneg_ℤ x (total xs) (All-head (λ x. pos 0 ≤ℤ x) x xs h) (total_nonneg xs (All-tail (λ x. pos 0 ≤ℤ x) x xs h))
-
 -- where no rest determinant is negative, no mass is
 pub masses_are_not_negative : (s : Setup) → IsSetup s → All (λ rest. pos 0 ≤ℤ rest) s.rest → All (λ mass. pos 0 ≤ℤ mass) s.mass
 masses_are_not_negative s h k =
-    All-same (λ mass. pos 0 ≤ℤ mass) s.mass (map (mass_of s.mesh s.numbers) (nodes_of s.mesh)) (ap (λ (t : Setup). t.mass) h.built)
-    (All-map (λ mass. pos 0 ≤ℤ mass) (mass_of s.mesh s.numbers) (nodes_of s.mesh) (λ i d l. mass _))
+    All-same (λ mass. pos 0 ≤ℤ mass) s.mass (map (mass_of s.mesh s.numbers) (node_positions s.mesh)) (ap (λ (t : Setup). t.mass) h.built)
+    (All-map (λ mass. pos 0 ≤ℤ mass) (mass_of s.mesh s.numbers) (node_positions s.mesh) (λ i d l. mass _))
   where
     rests : All (λ tet. pos 0 ≤ℤ rest_of s.mesh tet) s.mesh.tets
     rests =
@@ -84,27 +81,27 @@ choice P f true o h k = h
 choice P f false None h k = h
 choice P f false (Some tet) h k = k tet
 
-standing : Within 65536 origin
+standing : Within FASTEST origin
 standing = record { x = none; y = none; z = none }
   where
-    none : AtMost 65536 (pos 0)
+    none : AtMost FASTEST (pos 0)
     none = record { bound = lit≤ tt }
 
--- each component of each velocity is at most 65536
-pub velocities_are_within : (s : Setup) → IsSetup s → All (Within 65536) s.velocity
+-- each velocity is one that a scene may give
+pub velocities_are_within : (s : Setup) → IsSetup s → All (Within FASTEST) s.velocity
 velocities_are_within s h =
-    All-same (Within 65536) s.velocity (map (velocity_of s.mesh s.numbers) (nodes_of s.mesh)) (ap (λ (t : Setup). t.velocity) h.built)
-    (All-map (Within 65536) (velocity_of s.mesh s.numbers) (nodes_of s.mesh) (λ i d l. each _))
+    All-same (Within FASTEST) s.velocity (map (velocity_of s.mesh s.numbers) (node_positions s.mesh)) (ap (λ (t : Setup). t.velocity) h.built)
+    (All-map (Within FASTEST) (velocity_of s.mesh s.numbers) (node_positions s.mesh) (λ i d l. each _))
   where
-    each : (node : ℕ) → Within 65536 (velocity_of s.mesh s.numbers node)
-    each node = choice (Within 65536) (λ tet. (material_of s.numbers tet).velocity) (is_fixed s.mesh s.numbers node) (slice_get (tets_at s.mesh node) 0) standing (λ tet. (material_is_in_range s.numbers tet h.in_range).velocity)
+    each : (node : ℕ) → Within FASTEST (velocity_of s.mesh s.numbers node)
+    each node = choice (Within FASTEST) (λ tet. (material_of s.numbers tet).velocity) (is_fixed s.mesh s.numbers node) (slice_get (tets_at s.mesh node) 0) standing (λ tet. (material_is_in_range s.numbers tet h.in_range).velocity)
 
 -- a node that stays where it is has no velocity
 pub fixed_node_stands : (s : Setup) (node : ℕ) → IsSetup s → slice_get s.fixed node ≡ Some true → slice_get s.velocity node ≡ Some origin
 fixed_node_stands s node h e =
-    ap (λ (t : Setup). slice_get t.velocity node) h.built ∙ slice_get-map (velocity_of s.mesh s.numbers) (nodes_of s.mesh) node
-    ∙ both (is_fixed s.mesh s.numbers) (velocity_of s.mesh s.numbers) (slice_get (nodes_of s.mesh) node) (λ n. still (is_fixed s.mesh s.numbers n) _)
-    (sym (slice_get-map (is_fixed s.mesh s.numbers) (nodes_of s.mesh) node) ∙ sym (ap (λ (t : Setup). slice_get t.fixed node) h.built) ∙ e)
+    ap (λ (t : Setup). slice_get t.velocity node) h.built ∙ slice_get-map (velocity_of s.mesh s.numbers) (node_positions s.mesh) node
+    ∙ both (is_fixed s.mesh s.numbers) (velocity_of s.mesh s.numbers) (slice_get (node_positions s.mesh) node) (λ n. still (is_fixed s.mesh s.numbers n) _)
+    (sym (slice_get-map (is_fixed s.mesh s.numbers) (node_positions s.mesh) node) ∙ sym (ap (λ (t : Setup). slice_get t.fixed node) h.built) ∙ e)
   where
     still : (fixed : Bool) (v : V3) → fixed ≡ true → (if fixed then origin else v) ≡ origin
     still true v e = refl

@@ -6,7 +6,7 @@ use Rattle.space3.specs.declared.vectors.V3.{V3}
 use Rattle.space3.specs.Vectors.{Within, difference, origin}
 use Rattle.space3.specs.Mesh.{place_of}
 use Rattle.surface_mesh.specs.Edges.{edges_of, has_edges_within, is_within}
-use Rattle.surface_mesh.proofs.Passing.{all_pass}
+use Rattle.list_laws.proofs.Searches.{all_pass}
 
 -- the test of a vector says that it is within
 pub within : (most : ℕ) (v : V3) → IsTrue (is_within most v) → Within most v

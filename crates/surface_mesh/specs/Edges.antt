@@ -17,7 +17,8 @@ edges_of places nodes =
 
 -- each component is at most so much in absolute value
 abbrev pub is_within : ℕ → V3 → Bool
-is_within most v = nat_le (unsigned_abs v.x) most && nat_le (unsigned_abs v.y) most && nat_le (unsigned_abs v.z) most
+is_within most v =
+    nat_le (unsigned_abs v.x) most && nat_le (unsigned_abs v.y) most && nat_le (unsigned_abs v.z) most
 
 -- each component of each of the six edges is
 abbrev pub has_edges_within : ℕ → List V3 → List ℕ → Bool

@@ -1,11 +1,13 @@
 -- Materials by physical tag, and the ranges of a scene's numbers.
-use Rattle.std.specs.Prelude.{◌^◌, ◌≤◌, ℤ, pos, ◌≤ℤ◌, length, All, find, slice_index_or}
+use Rattle.std.specs.Prelude.{◌≤◌, ℤ, pos, length, All, find, slice_index_or}
 use Rattle.std.specs.Option.{option_map_or}
 use Rattle.std.specs.Ordering.{int_eq}
+use Rattle.whole_laws.specs.Ranges.{IsFrom}
 use Rattle.space3.specs.declared.lists.Tet.{Tet}
 use Rattle.space3.specs.Vectors.{Within}
 use Rattle.surface_mesh.specs.declared.materials.Material.{Material}
 use Rattle.surface_mesh.specs.declared.materials.Numbers.{Numbers}
+use Rattle.surface_mesh.specs.declared.ranges.TheConstants.{FASTEST, LEAST_DHAT, MOST_DENSITY, MOST_DHAT, MOST_GRAVITY, MOST_KAPPA, MOST_MODULUS, MOST_PARTS}
 
 -- the first tag of a tetrahedron, or 0 where it has none
 abbrev pub physical_tag : Tet → ℤ
@@ -16,23 +18,18 @@ abbrev pub material_of : Numbers → Tet → Material
 material_of numbers tet =
     option_map_or (λ part. part.1) (find (λ part. int_eq part.0 (physical_tag tet)) numbers.parts) numbers.base
 
--- at least the one and at most the other
-pub record IsFrom (least most n : ℤ) : Type 0 where
-  pub low : least ≤ℤ n
-  pub high : n ≤ℤ most
-
 -- what a scene may give a material
 pub record IsMaterial (material : Material) : Type 0 where
-  pub density : IsFrom (pos 1) (pos 1024) material.density
-  pub mu : IsFrom (pos 0) (pos (2 ^ 30)) material.mu
-  pub lambda : IsFrom (pos 0) (pos (2 ^ 30)) material.lambda
-  pub velocity : Within 65536 material.velocity
+  pub density : IsFrom (pos 1) MOST_DENSITY material.density
+  pub mu : IsFrom (pos 0) MOST_MODULUS material.mu
+  pub lambda : IsFrom (pos 0) MOST_MODULUS material.lambda
+  pub velocity : Within FASTEST material.velocity
 
 -- what a scene may give
 pub record AreNumbers (numbers : Numbers) : Type 0 where
   pub base : IsMaterial numbers.base
-  pub few_parts : length numbers.parts ≤ 64
+  pub few_parts : length numbers.parts ≤ MOST_PARTS
   pub parts : All (λ part. IsMaterial part.1) numbers.parts
-  pub kappa : IsFrom (pos 1) (pos (2 ^ 40)) numbers.kappa
-  pub dhat : IsFrom (pos 2) (pos 1024) numbers.dhat
-  pub gravity : Within (2 ^ 20) numbers.gravity
+  pub kappa : IsFrom (pos 1) MOST_KAPPA numbers.kappa
+  pub dhat : IsFrom LEAST_DHAT MOST_DHAT numbers.dhat
+  pub gravity : Within MOST_GRAVITY numbers.gravity

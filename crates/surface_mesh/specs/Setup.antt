@@ -10,7 +10,7 @@ use Rattle.space3.specs.Mesh.{IsSound, rest_determinant}
 use Rattle.surface_mesh.specs.declared.materials.Numbers.{Numbers}
 use Rattle.surface_mesh.specs.declared.setup.Setup.{Setup}
 use Rattle.surface_mesh.specs.Materials.{AreNumbers, material_of}
-use Rattle.surface_mesh.specs.Sums.{total}
+use Rattle.list_laws.specs.Sums.{total}
 
 -- the tetrahedron has this node
 abbrev pub has_node : ℕ → Tet → Bool
@@ -44,8 +44,8 @@ velocity_of mesh numbers node =
     else option_map_or (λ tet. (material_of numbers tet).velocity) (slice_get (tets_at mesh node) 0) origin
 
 -- the positions of the mesh's nodes
-abbrev pub nodes_of : Mesh → List ℕ
-nodes_of mesh = range_with_len 0 (length mesh.numbers)
+abbrev pub node_positions : Mesh → List ℕ
+node_positions mesh = range_with_len 0 (length mesh.numbers)
 
 -- what a mesh and a scene's numbers make
 abbrev pub setup_of : Mesh → Numbers → Setup
@@ -53,9 +53,9 @@ setup_of mesh numbers = record {
   mesh = mesh;
   numbers = numbers;
   rest = map (rest_of mesh) mesh.tets;
-  mass = map (mass_of mesh numbers) (nodes_of mesh);
-  fixed = map (is_fixed mesh numbers) (nodes_of mesh);
-  velocity = map (velocity_of mesh numbers) (nodes_of mesh);
+  mass = map (mass_of mesh numbers) (node_positions mesh);
+  fixed = map (is_fixed mesh numbers) (node_positions mesh);
+  velocity = map (velocity_of mesh numbers) (node_positions mesh);
 }
 
 -- a setup as it is built, of a sound mesh and numbers in range

@@ -5,13 +5,17 @@
 mod edges;
 mod lists;
 mod materials;
+mod ranges;
 mod setup;
 mod shares;
+mod sturdy;
 
 pub use edges::has_edges_within;
 pub use lists::{DirList, FixedList, MassList, RestList, VelocityList};
 pub use materials::{Material, Numbers, PartList};
+pub use ranges::{
+    FARTHEST_BEFORE, FASTEST, LEAST_DHAT, MOST_DENSITY, MOST_DHAT, MOST_GRAVITY, MOST_KAPPA,
+    MOST_MODULUS, MOST_PARTS,
+};
 pub use setup::Setup;
-
-#[cfg(test)]
-mod tests;
+pub use sturdy::{LEAST_REST, LONGEST_REST, MOST_MASS};

@@ -2,12 +2,12 @@
 ghost use Rattle.std.specs.Prelude.{◌≡◌, IfOk, map};
 ghost use Rattle.space3.specs.Mesh.{IsSound};
 ghost use Rattle.surface_mesh.specs.Materials.{AreNumbers};
-ghost use Rattle.surface_mesh.specs.Setup.{nodes_of, rest_of, setup_of};
-ghost use Rattle.surface_mesh.specs.Shares.{share_at};
+ghost use Rattle.surface_mesh.specs.Setup.{node_positions, rest_of, setup_of};
+ghost use Rattle.surface_mesh.specs.Calls.Shares.{share_at};
 
 use crate::lists::{FixedList, MassList, RestList, VelocityList};
 use crate::materials::Numbers;
-use crate::shares::{Share, deal, fixed_flags, masses, velocities};
+use crate::shares::{Share, add_share, fixed_flags, masses, velocities};
 use space3::{Mesh, rest_det};
 use std::alloc::{AllocError, Global};
 
@@ -24,29 +24,6 @@ pub struct Setup {
     pub fixed: FixedList,
     /// One velocity per node.
     pub velocity: VelocityList,
-}
-
-// One rest determinant for each tetrahedron, and one share for each node.
-fn sums_of(
-    alloc: Global,
-    mesh: &Mesh,
-    numbers: &Numbers,
-) -> Result<(Vec<i128>, Vec<Share>), AllocError>
-    requires sound { IsSound mesh.now }
-    requires in_range { AreNumbers numbers.now }
-    ensures rest { IfOk result (λ sums. sums.0.items ≡ map (rest_of mesh.now) mesh.now.tets) }
-    ensures shares { IfOk result (λ sums. sums.1.items ≡ map (share_at mesh.now numbers.now) (nodes_of mesh.now)) }
-{
-    let tets = mesh.tets.items();
-    let mut rest = Vec::with_capacity(alloc, tets.len())?;
-    let mut shares = vec![in alloc; Share::NOTHING; mesh.numbers.items().len()]?;
-    for tet in tets {
-        let rest_of_tet = rest_det(&mesh.places, tet);
-        let share = Share::of(numbers.material_of(tet), rest_of_tet);
-        rest.push(rest_of_tet)?;
-        deal(&mut shares, &tet.nodes, share);
-    }
-    Ok((rest, shares))
 }
 
 impl Setup {
@@ -69,4 +46,28 @@ impl Setup {
             velocity: VelocityList::of_vec(velocity),
         })
     }
+}
+
+// One rest determinant for each tetrahedron, and one share for each node.
+fn sums_of(
+    alloc: Global,
+    mesh: &Mesh,
+    numbers: &Numbers,
+) -> Result<(Vec<i128>, Vec<Share>), AllocError>
+    requires sound { IsSound mesh.now }
+    requires in_range { AreNumbers numbers.now }
+    ensures rest { IfOk result (λ sums. sums.0.items ≡ map (rest_of mesh.now) mesh.now.tets) }
+    ensures shares { IfOk result (λ sums.
+        sums.1.items ≡ map (share_at mesh.now numbers.now) (node_positions mesh.now)) }
+{
+    let tets = mesh.tets.items();
+    let mut rest = Vec::with_capacity(alloc, tets.len())?;
+    let mut shares = vec![in alloc; Share::NOTHING; mesh.numbers.items().len()]?;
+    for tet in tets {
+        let rest_of_tet = rest_det(&mesh.places, tet);
+        let share = Share::of(numbers.material_of(tet), rest_of_tet);
+        rest.push(rest_of_tet)?;
+        add_share(&mut shares, &tet.nodes, share);
+    }
+    Ok((rest, shares))
 }

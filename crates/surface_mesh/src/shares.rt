@@ -2,7 +2,7 @@
 ghost use Rattle.std.specs.Prelude.{◌≡◌, ◌^◌, ◌<◌, ◌≤◌, ◌+ℤ◌, ◌*ℤ◌, map, length, All, IfOk};
 ghost use Rattle.space3.specs.Vectors.{AtMost};
 ghost use Rattle.surface_mesh.specs.Materials.{IsMaterial};
-ghost use Rattle.surface_mesh.specs.Shares.{dealt, joined, share_of, start_velocity, stays};
+ghost use Rattle.surface_mesh.specs.Calls.Shares.{with_share, share_sum, share_of, start_velocity, stays};
 
 use crate::materials::Material;
 use space3::V3;
@@ -19,7 +19,7 @@ pub(crate) struct Share {
     pub velocity: Option<V3>,
 }
 
-fn times(density: i64, rest: i128) -> i128
+fn product(density: i64, rest: i128) -> i128
     requires density { AtMost 1024 density }
     requires rest { AtMost (2 ^ 66) rest }
     ensures value { result ≡ density *ℤ rest }
@@ -28,7 +28,7 @@ fn times(density: i64, rest: i128) -> i128
     density as i128 * rest
 }
 
-fn plus(a: i128, b: i128) -> i128
+fn sum(a: i128, b: i128) -> i128
     requires left { AtMost (2 ^ 125) a }
     requires right { AtMost (2 ^ 125) b }
     ensures { result ≡ a +ℤ b }
@@ -52,20 +52,20 @@ impl Share {
         ensures bound { AtMost (2 ^ 76) result.mass }
     {
         Share {
-            mass: times(material.density, rest),
+            mass: product(material.density, rest),
             fixed: material.fixed,
             velocity: Some(material.velocity),
         }
     }
 
     /// Both shares together.
-    pub(crate) fn join(self, other: Share) -> Share
+    pub(crate) fn plus(self, other: Share) -> Share
         requires left { AtMost (2 ^ 125) self.mass }
         requires right { AtMost (2 ^ 125) other.mass }
-        ensures { result ≡ joined self other }
+        ensures { result ≡ share_sum self other }
     {
         Share {
-            mass: plus(self.mass, other.mass),
+            mass: sum(self.mass, other.mass),
             fixed: self.fixed || other.fixed,
             velocity: self.velocity.or(other.velocity),
         }
@@ -91,16 +91,16 @@ impl Share {
 }
 
 /// Gives each of these nodes a share more.
-pub(crate) fn deal(shares: &mut [Share], nodes: &[u32], share: Share)
+pub(crate) fn add_share(shares: &mut [Share], nodes: &[u32], share: Share)
     requires few { length nodes.now ≤ 4 }
     requires there { All (λ node. node < length shares.old) nodes.now }
     requires small { All (λ s. AtMost (2 ^ 120) s.mass) shares.old }
     requires share { AtMost (2 ^ 76) share.mass }
-    ensures { shares.new ≡ dealt share shares.old nodes.now }
+    ensures { shares.new ≡ with_share share shares.old nodes.now }
 {
     for node in nodes {
         let i = *node as usize;
-        shares[i] = shares[i].join(share);
+        shares[i] = shares[i].plus(share);
     }
 }
 

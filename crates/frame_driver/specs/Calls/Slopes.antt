@@ -4,8 +4,8 @@ use Rattle.std.specs.List.{range_with_len}
 use Rattle.num_q.specs.Rounding.{cut_of}
 use Rattle.space3.specs.declared.vectors.V3.{V3}
 use Rattle.space3.specs.Vectors.{AtMost, vector}
-use Rattle.surface_mesh.specs.Materials.{IsFrom}
-use Rattle.surface_mesh.specs.Sturdy.{most_mass}
+use Rattle.whole_laws.specs.Ranges.{IsFrom}
+use Rattle.surface_mesh.specs.declared.sturdy.TheConstants.{MOST_MASS}
 use Rattle.frame_driver.specs.Directions.{jacobi_component}
 
 -- the matrix's diagonal entry of a node of this mass
@@ -20,7 +20,8 @@ component_at diagonal slopes i = jacobi_component diagonal (slice_index_or slope
 abbrev pub direction_at : (mass : List ℤ) (fixed : List Bool) (slopes : List ℤ) → ℕ → V3
 direction_at mass fixed slopes node =
     let diagonal = diagonal_of (slice_index_or mass node (pos 0)) (slice_index_or fixed node false) in
-    vector (component_at diagonal slopes (3 * node)) (component_at diagonal slopes (3 * node + 1)) (component_at diagonal slopes (3 * node + 2))
+    let component = component_at diagonal slopes in
+    vector (component (3 * node)) (component (3 * node + 1)) (component (3 * node + 2))
 
 -- the direction, one vector per node
 abbrev pub directions_of : (mass : List ℤ) (fixed : List Bool) (slopes : List ℤ) → List V3
@@ -30,5 +31,5 @@ directions_of mass fixed slopes = map (direction_at mass fixed slopes) (range_wi
 pub record BelongTogether (mass : List ℤ) (fixed : List Bool) (slopes : List ℤ) : Type 0 where
   pub flags : length fixed ≡ length mass
   pub three : length slopes ≡ 3 * length mass
-  pub light : All (IsFrom (pos 0) most_mass) mass
+  pub light : All (IsFrom (pos 0) MOST_MASS) mass
   pub small : All (AtMost (2 ^ 90)) slopes

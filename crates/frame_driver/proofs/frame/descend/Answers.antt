@@ -1,7 +1,7 @@
 use Rattle.std.proofs.Common.{◌≡◌, ◌∙◌, w64, arith, le_refl, rules, to_z, of_z}
 use Rattle.std.specs.Int.{w128}
 use Rattle.std.proofs.lemmas.Int.{to_z-of_z}
-use Rattle.frame_driver.proofs.Descents.{one_more, at_budget, stalls, spends, descends_at}
+use Rattle.frame_driver.proofs.Descents.{HasCome-push, at_budget, stalls, spends, descends_at}
 use Rattle.frame_driver.proofs.frame.descend.Goals as goal
 
 pub loop-taken-preserved : goal.loop-taken-preserved
@@ -9,7 +9,7 @@ loop-taken-preserved c =
     let next = rw c.in-Step.is at c.in_ok-next_at.ensures in
     let kept : to_z w128 (of_z w128 c.in-Step.step.lower) ≡ c.in-Step.step.lower = search rules in
     record {
-      come = one_more _ _ _ _ _ c.in-Step.step _ c.loop-taken.invariant.come next;
+      come = HasCome-push _ _ _ _ _ c.in-Step.step _ c.loop-taken.invariant.come next;
       upper = kept ∙ next.goes_on.step_at.lower;
     }
 

@@ -1,5 +1,6 @@
 use Rattle.std.proofs.Common.{◌∙◌, ◌-◌, ◌^◌, List, length, ap, sym, subst}
 use Rattle.std.specs.Prelude.{All, IfOk, IfSome, IfNone}
+use Rattle.space3.specs.declared.ways.TheConstants.{DIRECTION_LIMIT}
 use Rattle.space3.specs.declared.vectors.V3.{V3}
 use Rattle.space3.specs.Vectors.{Within}
 use Rattle.line_search.specs.Accepted.{HasNoAccepted}
@@ -16,7 +17,7 @@ first_step-requires-clause-direction c =
     let made = made_is_jacobi c.args.setup.now c.args.terms.now c.args.x.now c.of_vec.result _ _ _ c.requires.ready.built (c.of_vec.ensures ∙ c.in_ok-direction.ensures.value) c.items.ensures c.items-2.ensures c.requires.slopes in
     record {
       each = ap (λ (d : List V3). length d) made ∙ length-jacobi c.args.setup.now c.args.terms.now c.args.x.now ∙ sym c.requires.ready.pose.each;
-      short = subst (All (Within (2 ^ 21 - 1))) (sym c.of_vec.ensures) c.in_ok-direction.ensures.short;
+      short = subst (All (Within DIRECTION_LIMIT)) (sym c.of_vec.ensures) c.in_ok-direction.ensures.short;
     }
 
 pub returns-clause-step : goal.returns-clause-step

@@ -3,8 +3,9 @@ use Rattle.std.proofs.lemmas.List.Elements.{All-nil, All-cons, All-append}
 use Rattle.std.proofs.lemmas.Option.{get_or_from_slice_get}
 use Rattle.space3.specs.declared.vectors.V3.{V3}
 use Rattle.space3.specs.Vectors.{Within, origin}
+use Rattle.potential_sum.specs.declared.terms.TheConstants.{FARTHEST_TARGET}
 use Rattle.potential_sum.specs.Inertia.{target_of}
-use Rattle.potential_sum.proofs.Targets.{targets_push}
+use Rattle.list_laws.proofs.Pushes.{zipped_more}
 use Rattle.potential_sum.proofs.terms.targets_of.Goals as goal
 
 pub loop-node-preserved : goal.loop-node-preserved
@@ -16,6 +17,6 @@ loop-node-preserved c =
     let place : c.get.result ≡ get_or places c.loop-node.node origin = sym (get_or_from_slice_get places c.loop-node.node c.get.result origin c.get.ensures.place) in
     let next : target ≡ target_of c.args.gravity (get_or places c.loop-node.node origin) (get_or before c.loop-node.node origin) = c.target_of.ensures.value ∙ ap (λ (p : V3). target_of c.args.gravity p (get_or before c.loop-node.node origin)) place in
     record {
-      targets = targets_push c.args.gravity places before c.loop-node.node origin origin target c.loop-node.made.items c.push.new.self.items there (omega (arith, there, c.requires.as_many)) c.loop-node.invariant.targets next c.in_ok-push.ensures.items;
-      near = rw c.in_ok-push.ensures.items (All-append (Within (2 ^ 30)) c.loop-node.made.items (target ∷ []) c.loop-node.invariant.near (All-cons (Within (2 ^ 30)) target [] c.target_of.ensures.bound (All-nil (Within (2 ^ 30)))));
+      targets = zipped_more (λ (node : V3 × V3). target_of c.args.gravity node.0 node.1) places before c.loop-node.node origin origin target c.loop-node.made.items c.push.new.self.items there (omega (arith, there, c.requires.as_many)) c.loop-node.invariant.targets next c.in_ok-push.ensures.items;
+      near = rw c.in_ok-push.ensures.items (All-append (Within FARTHEST_TARGET) c.loop-node.made.items (target ∷ []) c.loop-node.invariant.near (All-cons (Within FARTHEST_TARGET) target [] c.target_of.ensures.bound (All-nil (Within FARTHEST_TARGET))));
     }

@@ -4,6 +4,7 @@ use Rattle.std.specs.List.{zip}
 use Rattle.std.proofs.lemmas.Int.{to_z-of_z}
 use Rattle.space3.specs.declared.vectors.V3.{V3}
 use Rattle.space3.specs.Vectors.{Within, difference}
+use Rattle.surface_mesh.specs.declared.ranges.TheConstants.{FASTEST}
 use Rattle.surface_mesh.proofs.SetupFacts.{velocity_length, velocities_are_within}
 use Rattle.line_search.specs.Upright.{IsPose}
 use Rattle.frame_driver.specs.Paths.{first_before}
@@ -15,7 +16,7 @@ places_before-requires-clause-as_many c =
     ap (λ (vs : List V3). length vs) c.items.ensures ∙ velocity_length c.args.setup c.requires.built ∙ c.requires.built.mesh_is_sound.placed
 
 pub places_before-requires-clause-slow : goal.places_before-requires-clause-slow
-places_before-requires-clause-slow c = subst (All (Within 65536)) (sym c.items.ensures) (velocities_are_within c.args.setup c.requires.built)
+places_before-requires-clause-slow c = subst (All (Within FASTEST)) (sym c.items.ensures) (velocities_are_within c.args.setup c.requires.built)
 
 -- the places before are those of the path
 before-is : (c : goal.In_ok-places) → c.in_ok-before.before.items ≡ first_before c.args.setup

@@ -4,11 +4,11 @@ use Rattle.std.specs.List.{range_with_len}
 use Rattle.std.proofs.lemmas.Int.{to_z-of_z, fits_signed_from_abs}
 use Rattle.whole_laws.proofs.Order.{size_sum}
 use Rattle.space3.specs.Vectors.{AtMost}
-use Rattle.surface_mesh.specs.Sums.{total}
+use Rattle.list_laws.specs.Sums.{total}
 use Rattle.potential_sum.specs.Potential.{inertia_at}
 use Rattle.potential_sum.proofs.Gradients.{inertia_is_small}
 use Rattle.surface_mesh.proofs.SetupFacts.{mass_length}
-use Rattle.potential_sum.proofs.Totals.{total_more}
+use Rattle.list_laws.proofs.Sums.{total_more}
 use Rattle.potential_sum.proofs.terms.Terms.energy.Goals as goal
 
 -- a sum over i numbers of at most 2^90 each, and one such number more

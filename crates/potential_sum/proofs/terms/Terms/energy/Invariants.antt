@@ -1,6 +1,6 @@
 use Rattle.std.proofs.Common.{◌≡◌, ◌≤◌, ◌*◌, ◌^◌, map, unsigned_abs}
 use Rattle.std.specs.List.{range_with_len}
-use Rattle.surface_mesh.specs.Sums.{total}
+use Rattle.list_laws.specs.Sums.{total}
 use Rattle.potential_sum.specs.Potential.{inertia_at}
 use Rattle.potential_sum.proofs.terms.Terms.energy.Given as goal
 

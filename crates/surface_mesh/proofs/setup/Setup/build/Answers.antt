@@ -1,6 +1,6 @@
 use Rattle.std.proofs.Common.{◌∙◌, map, ap}
-use Rattle.surface_mesh.specs.Shares.{start_velocity, stays}
-use Rattle.surface_mesh.proofs.Taken.{setup_is}
+use Rattle.surface_mesh.specs.Calls.Shares.{start_velocity, stays}
+use Rattle.surface_mesh.proofs.ShareLists.{setup_is}
 use Rattle.surface_mesh.proofs.setup.Setup.build.Goals as goal
 
 pub returns : goal.returns

@@ -11,15 +11,16 @@ use Rattle.surface_mesh.specs.declared.materials.Numbers.{Numbers}
 use Rattle.surface_mesh.specs.declared.shares.Share.{Share}
 use Rattle.surface_mesh.specs.Materials.{material_of}
 use Rattle.surface_mesh.specs.Setup.{tets_at, weight_of}
-use Rattle.surface_mesh.specs.Sums.{total}
+use Rattle.list_laws.specs.Sums.{total}
 
 -- no tetrahedron gives this
 abbrev pub nothing : Share
 nothing = record { mass = pos 0; fixed = false; velocity = None }
 
 -- two shares together: the masses add up, one that is fixed fixes both, and the first velocity counts
-abbrev pub joined : Share → Share → Share
-joined a b = record { mass = a.mass +ℤ b.mass; fixed = a.fixed || b.fixed; velocity = option_or a.velocity b.velocity }
+abbrev pub share_sum : Share → Share → Share
+share_sum a b =
+    record { mass = a.mass +ℤ b.mass; fixed = a.fixed || b.fixed; velocity = option_or a.velocity b.velocity }
 
 -- what a tetrahedron of this material and rest determinant gives each of its nodes
 abbrev pub share_of : Material → ℤ → Share
@@ -35,9 +36,9 @@ abbrev pub start_velocity : Share → V3
 start_velocity share = if stays share then origin else unwrap_or share.velocity origin
 
 -- the shares of all nodes, after each of these nodes was given a share more
-abbrev pub dealt : Share → List Share → List ℕ → List Share
-dealt share shares nodes =
-    fold (λ now node. slice_set now node (joined (slice_index_or now node nothing) share)) shares nodes
+abbrev pub with_share : Share → List Share → List ℕ → List Share
+with_share share shares nodes =
+    fold (λ now node. slice_set now node (share_sum (slice_index_or now node nothing) share)) shares nodes
 
 -- what these tetrahedra give a node together
 abbrev pub share_of_tets : Mesh → Numbers → List Tet → Share

@@ -11,8 +11,8 @@ use Rattle.space3.specs.Vectors.{origin}
 use Rattle.surface_mesh.specs.declared.materials.Numbers.{Numbers}
 use Rattle.surface_mesh.specs.declared.shares.Share.{Share}
 use Rattle.surface_mesh.specs.Materials.{material_of}
-use Rattle.surface_mesh.specs.Setup.{is_fixed, mass_of, nodes_of, rest_of, setup_of, tets_at, velocity_of}
-use Rattle.surface_mesh.specs.Shares.{share_at, start_velocity, stays}
+use Rattle.surface_mesh.specs.Setup.{is_fixed, mass_of, node_positions, rest_of, setup_of, tets_at, velocity_of}
+use Rattle.surface_mesh.specs.Calls.Shares.{share_at, start_velocity, stays}
 
 no_first : {X Y : Type 0} (f : X → Y) (xs : List X) → not (is_some (option_map f (slice_get xs 0))) ≡ (length xs == 0)
 no_first f [] = refl
@@ -30,20 +30,20 @@ velocity_is mesh numbers node = λ i. if stays_is mesh numbers node i then origi
 
 -- the setup of a mesh, out of its rest determinants and shares
 pub setup_is : (mesh : Mesh) (numbers : Numbers) (rest mass : List ℤ) (fixed : List Bool) (velocity : List V3) (shares : List Share)
-    → rest ≡ map (rest_of mesh) mesh.tets → shares ≡ map (share_at mesh numbers) (nodes_of mesh)
+    → rest ≡ map (rest_of mesh) mesh.tets → shares ≡ map (share_at mesh numbers) (node_positions mesh)
     → mass ≡ map (λ share. share.mass) shares → fixed ≡ map stays shares → velocity ≡ map start_velocity shares
     → record { mesh = mesh; numbers = numbers; rest = rest; mass = mass; fixed = fixed; velocity = velocity } ≡ setup_of mesh numbers
 setup_is mesh numbers rest mass fixed velocity shares rest-is shares-are mass-is fixed-is velocity-is =
     λ i. record { mesh = mesh; numbers = numbers; rest = rest-is i; mass = masses i; fixed = flags i; velocity = velocities i }
   where
-    taken : {X : Type 0} (f : Share → X) (xs : List X) → xs ≡ map f shares → xs ≡ map (λ node. f (share_at mesh numbers node)) (nodes_of mesh)
-    taken f xs e = e ∙ ap (map f) shares-are ∙ map-map f (share_at mesh numbers) (nodes_of mesh)
+    taken : {X : Type 0} (f : Share → X) (xs : List X) → xs ≡ map f shares → xs ≡ map (λ node. f (share_at mesh numbers node)) (node_positions mesh)
+    taken f xs e = e ∙ ap (map f) shares-are ∙ map-map f (share_at mesh numbers) (node_positions mesh)
 
-    masses : mass ≡ map (mass_of mesh numbers) (nodes_of mesh)
+    masses : mass ≡ map (mass_of mesh numbers) (node_positions mesh)
     masses = taken (λ share. share.mass) mass mass-is
 
-    flags : fixed ≡ map (is_fixed mesh numbers) (nodes_of mesh)
-    flags = taken stays fixed fixed-is ∙ (λ i. map (λ node. stays_is mesh numbers node i) (nodes_of mesh))
+    flags : fixed ≡ map (is_fixed mesh numbers) (node_positions mesh)
+    flags = taken stays fixed fixed-is ∙ (λ i. map (λ node. stays_is mesh numbers node i) (node_positions mesh))
 
-    velocities : velocity ≡ map (velocity_of mesh numbers) (nodes_of mesh)
-    velocities = taken start_velocity velocity velocity-is ∙ (λ i. map (λ node. velocity_is mesh numbers node i) (nodes_of mesh))
+    velocities : velocity ≡ map (velocity_of mesh numbers) (node_positions mesh)
+    velocities = taken start_velocity velocity velocity-is ∙ (λ i. map (λ node. velocity_is mesh numbers node i) (node_positions mesh))

@@ -1,4 +1,4 @@
--- Shares that are dealt to nodes.
+-- Shares that are with_share to nodes.
 use Rattle.std.proofs.Common.{◌≡◌, ℕ, suc, ◌+◌, ◌*◌, ◌^◌, ◌<◌, ◌≤◌, ℤ, ◌+ℤ◌, Bool, true, false, cond, ◌||◌, List, [], ◌∷◌, set, map, ◌++◌, length, get_or, take, drop, refl, ap, ◌∙◌, subst, sym, arith, inl, inr}
 use Rattle.std.specs.Prelude.{All, ◌==◌, if◌then◌else◌}
 use Rattle.std.specs.List.{IsDistinct, list_any, range_with_len}
@@ -14,7 +14,7 @@ use Rattle.std.proofs.Math.ListN.{get_or-eq_default}
 use Rattle.whole_laws.proofs.Order.{size_sum}
 use Rattle.space3.specs.Vectors.{AtMost}
 use Rattle.surface_mesh.specs.declared.shares.Share.{Share}
-use Rattle.surface_mesh.specs.Shares.{dealt, joined, nothing}
+use Rattle.surface_mesh.specs.Calls.Shares.{with_share, share_sum, nothing}
 
 -- each mass is at most so much in absolute value
 abbrev pub AreLight : ℕ → List Share → Type 0
@@ -30,32 +30,32 @@ sum_at_most m a b h k = record { bound = omega (arith, size_sum a b, h.bound, k.
 more : (m : ℕ) (a : ℤ) → AtMost m a → AtMost (m + 2 ^ 76) a
 more m a h = record { bound = omega (arith, h.bound) }
 
--- dealing adds a share's mass once for each node, at most
-pub dealt_are_light : (most : ℕ) (share : Share) (shares : List Share) (nodes : List ℕ) → AtMost (2 ^ 76) share.mass → AreLight most shares → AreLight (most + length nodes * 2 ^ 76) (dealt share shares nodes)
-dealt_are_light most share shares [] h k = All-weaker (λ s. AtMost most s.mass) (λ s. AtMost (most + 0 * 2 ^ 76) s.mass) (λ s l. record { bound = omega (arith, l.bound) }) shares k
-dealt_are_light most share shares (n ∷ ns) h k =
-    subst (λ (m : ℕ). AreLight m (dealt share shares (n ∷ ns))) (count most (length ns))
-    (dealt_are_light (most + 2 ^ 76) share (set shares n (joined (get_or shares n nothing) share)) ns h
-    (All-set (λ s. AtMost (most + 2 ^ 76) s.mass) shares n (joined (get_or shares n nothing) share)
+-- giving adds a share's mass once for each node, at most
+pub with_share_is_light : (most : ℕ) (share : Share) (shares : List Share) (nodes : List ℕ) → AtMost (2 ^ 76) share.mass → AreLight most shares → AreLight (most + length nodes * 2 ^ 76) (with_share share shares nodes)
+with_share_is_light most share shares [] h k = All-weaker (λ s. AtMost most s.mass) (λ s. AtMost (most + 0 * 2 ^ 76) s.mass) (λ s l. record { bound = omega (arith, l.bound) }) shares k
+with_share_is_light most share shares (n ∷ ns) h k =
+    subst (λ (m : ℕ). AreLight m (with_share share shares (n ∷ ns))) (count most (length ns))
+    (with_share_is_light (most + 2 ^ 76) share (set shares n (share_sum (get_or shares n nothing) share)) ns h
+    (All-set (λ s. AtMost (most + 2 ^ 76) s.mass) shares n (share_sum (get_or shares n nothing) share)
     (sum_at_most most (get_or shares n nothing).mass share.mass (at_any (λ s. AtMost most s.mass) shares n nothing k (record { bound = omega arith })) h)
     (All-weaker (λ s. AtMost most s.mass) (λ s. AtMost (most + 2 ^ 76) s.mass) (λ s l. more most s.mass l) shares k)))
   where
     count : (m l : ℕ) → (m + 2 ^ 76) + l * 2 ^ 76 ≡ m + (suc l) * 2 ^ 76
     count m l = omega arith
 
--- while a share is dealt to at most four nodes, each sum stays small
-pub light_at : (share : Share) (shares : List Share) (nodes : List ℕ) (now : List Share) (i node : ℕ) → length nodes ≤ 4 → AtMost (2 ^ 76) share.mass → AreLight (2 ^ 120) shares → now ≡ dealt share shares (take i nodes) → AtMost (2 ^ 125) (get_or now node nothing).mass
+-- while a share is with_share to at most four nodes, each sum stays small
+pub light_at : (share : Share) (shares : List Share) (nodes : List ℕ) (now : List Share) (i node : ℕ) → length nodes ≤ 4 → AtMost (2 ^ 76) share.mass → AreLight (2 ^ 120) shares → now ≡ with_share share shares (take i nodes) → AtMost (2 ^ 125) (get_or now node nothing).mass
 light_at share shares nodes now i node few h k e = record { bound = omega (arith, each.bound, length-take i nodes) }
   where
     each : AtMost (2 ^ 120 + length (take i nodes) * 2 ^ 76) (get_or now node nothing).mass
     each =
         at_any (λ s. AtMost (2 ^ 120 + length (take i nodes) * 2 ^ 76) s.mass) now node nothing
-        (subst (λ (shares : List Share). AreLight (2 ^ 120 + length (take i nodes) * 2 ^ 76) shares) (sym e) (dealt_are_light (2 ^ 120) share shares (take i nodes) h k))
+        (subst (λ (shares : List Share). AreLight (2 ^ 120 + length (take i nodes) * 2 ^ 76) shares) (sym e) (with_share_is_light (2 ^ 120) share shares (take i nodes) h k))
         (record { bound = omega arith })
 
--- a node's share, after a share was dealt to these nodes
+-- a node's share, after a share was with_share to these nodes
 abbrev pub after : Share → (ℕ → Share) → List ℕ → ℕ → Share
-after share f nodes k = if list_any (λ node. node == k) nodes then joined (f k) share else f k
+after share f nodes k = if list_any (λ node. node == k) nodes then share_sum (f k) share else f k
 
 -- a write to a list of values, one for each number
 set-map-range : {X : Type 0} (f g : ℕ → X) (count i : ℕ) (x : X) → i < count → x ≡ g i → ((k : ℕ) → (i ≡ k → ⊥) → f k ≡ g k) → set (map f (range_with_len 0 count)) i x ≡ map g (range_with_len 0 count)
@@ -78,11 +78,11 @@ set-map-range {X} f g count i x there e same =
         read h k d l = get_or-map-range_with_len h 0 count k k d l (omega arith)
 
 -- different nodes get the share once each
-pub dealt_to_different : (share : Share) (f : ℕ → Share) (count : ℕ) (nodes : List ℕ) → IsDistinct (λ i j. i == j) nodes → All (λ node. node < count) nodes → dealt share (map f (range_with_len 0 count)) nodes ≡ map (after share f nodes) (range_with_len 0 count)
-dealt_to_different share f count [] different there = refl
-dealt_to_different share f count (n ∷ ns) different there =
-    ap (λ (shares : List Share). dealt share shares ns) first
-    ∙ dealt_to_different share (after share f (n ∷ [])) count ns (IsDistinct-tail (λ i j. i == j) n ns different) (All-tail (λ node. node < count) n ns there)
+pub with_share_at_different : (share : Share) (f : ℕ → Share) (count : ℕ) (nodes : List ℕ) → IsDistinct (λ i j. i == j) nodes → All (λ node. node < count) nodes → with_share share (map f (range_with_len 0 count)) nodes ≡ map (after share f nodes) (range_with_len 0 count)
+with_share_at_different share f count [] different there = refl
+with_share_at_different share f count (n ∷ ns) different there =
+    ap (λ (shares : List Share). with_share share shares ns) first
+    ∙ with_share_at_different share (after share f (n ∷ [])) count ns (IsDistinct-tail (λ i j. i == j) n ns different) (All-tail (λ node. node < count) n ns there)
     ∙ (λ i. map (λ k. both (n == k) (list_any (λ node. node == k) ns) (f k) (apart k) i) (range_with_len 0 count))
   where
     here : n < count
@@ -96,13 +96,13 @@ dealt_to_different share f count (n ∷ ns) different there =
     passed true x y e = cc
     passed false x y e = refl
 
-    first : set (map f (range_with_len 0 count)) n (joined (get_or (map f (range_with_len 0 count)) n nothing) share) ≡ map (after share f (n ∷ [])) (range_with_len 0 count)
+    first : set (map f (range_with_len 0 count)) n (share_sum (get_or (map f (range_with_len 0 count)) n nothing) share) ≡ map (after share f (n ∷ [])) (range_with_len 0 count)
     first =
-        set-map-range f (after share f (n ∷ [])) count n (joined (get_or (map f (range_with_len 0 count)) n nothing) share) here
-        (ap (λ (s : Share). joined s share) (get_or-map-range_with_len f 0 count n n nothing here (omega arith)) ∙ chosen (n == n) (joined (f n) share) (f n) (eq-eqb n n refl))
-        (λ k h. passed (n == k) (joined (f k) share) (f k) (ne_eqb n k h))
+        set-map-range f (after share f (n ∷ [])) count n (share_sum (get_or (map f (range_with_len 0 count)) n nothing) share) here
+        (ap (λ (s : Share). share_sum s share) (get_or-map-range_with_len f 0 count n n nothing here (omega arith)) ∙ chosen (n == n) (share_sum (f n) share) (f n) (eq-eqb n n refl))
+        (λ k h. passed (n == k) (share_sum (f k) share) (f k) (ne_eqb n k h))
 
-    both : (a b : Bool) (x : Share) → (a ≡ true → b ≡ false) → cond b (joined (cond (a || false) (joined x share) x) share) (cond (a || false) (joined x share) x) ≡ cond (a || b) (joined x share) x
+    both : (a b : Bool) (x : Share) → (a ≡ true → b ≡ false) → cond b (share_sum (cond (a || false) (share_sum x share) x) share) (cond (a || false) (share_sum x share) x) ≡ cond (a || b) (share_sum x share) x
     both true true x h = absurd (true≢false (h refl))
     both true false x h = refl
     both false true x h = refl
