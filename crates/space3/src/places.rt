@@ -128,8 +128,10 @@ impl Places {
         requires as_many { length dir.now ≡ length self.now }
         requires directions { All (Within DIRECTION_LIMIT) dir.now }
         requires half { half ≤ HALVING_LIMIT }
-        ensures places { IfOk result (λ made. IfSome made (λ p. p ≡ moved_by self.now dir.now half)) }
-        ensures in_box { IfOk result (λ made. IsSome made ↔ All IsInTheBox (moved_by self.now dir.now half)) }
+        ensures places { let moved = moved_by self.now dir.now half in
+            IfOk result (λ made. IfSome made (λ p. p ≡ moved)) }
+        ensures in_box { let moved = moved_by self.now dir.now half in
+            IfOk result (λ made. IsSome made ↔ All IsInTheBox moved) }
     {
         let list = moved_places(alloc, &self.list, dir, half)?;
         if are_in_box(&list) {

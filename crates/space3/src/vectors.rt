@@ -1,5 +1,5 @@
 //! Vectors in grid units, their differences and determinants.
-ghost use Rattle.std.specs.Prelude.{◌≡◌, ◌^◌, ◌≤◌, ◌-ℤ◌, ◌*ℤ◌, ◌+ℤ◌};
+ghost use Rattle.std.specs.Prelude.{◌≡◌, ◌^◌, ◌≤◌, ◌*◌, ◌-ℤ◌, ◌*ℤ◌, ◌+ℤ◌};
 ghost use Rattle.space3.specs.Vectors.{AtMost, Within, difference, dot_product, cross_product, determinant};
 ghost use Rattle.space3.specs.Wide.{unbounded};
 
@@ -27,7 +27,10 @@ pub struct W3 {
 }
 
 fn times(a: i64, b: i64) -> i128
-    ensures { result ≡ a *ℤ b }
+    requires left { AtMost VECTOR_LIMIT a }
+    requires right { AtMost VECTOR_LIMIT b }
+    ensures value { result ≡ a *ℤ b }
+    ensures bound { AtMost (VECTOR_LIMIT * VECTOR_LIMIT) result }
 {
     a as i128 * b as i128
 }
@@ -35,7 +38,8 @@ fn times(a: i64, b: i64) -> i128
 fn times_wide(a: i64, b: i128) -> i128
     requires left { AtMost VECTOR_LIMIT a }
     requires right { AtMost CROSS_LIMIT b }
-    ensures { result ≡ a *ℤ b }
+    ensures value { result ≡ a *ℤ b }
+    ensures bound { AtMost (VECTOR_LIMIT * CROSS_LIMIT) result }
 {
     a as i128 * b
 }
