@@ -26,6 +26,7 @@ pub fn overturning_tetrahedron_is_refused()
     ensures at_the_end { volume_at 1 1 overturning_tetrahedron ≡ pos 500000 }
     ensures at_the_half { volume_at 1 2 overturning_tetrahedron ≡ pos 0 }
     ensures at_two_thirds { volume_at 2 3 overturning_tetrahedron ≡ pos 0 }
-    ensures between { (p q : ℕ) → q < 2 * p → 3 * p < 2 * q → volume_at p q overturning_tetrahedron <ℤ pos 0 }
+    ensures between { (p q : ℕ) → q < 2 * p → 3 * p < 2 * q →
+        volume_at p q overturning_tetrahedron <ℤ pos 0 }
     ensures refused { (depth : ℕ) → ¬ VolumeCertificate depth overturning_tetrahedron }
 {}

@@ -18,7 +18,8 @@ pub fn certified_volumes_stay_positive()
 
 /// A certificate of some depth gives one of the next.
 pub fn volume_certificates_deepen()
-    ensures { (depth : ℕ) (t : Corners) → VolumeCertificate depth t → VolumeCertificate (depth + 1) t }
+    ensures { (depth : ℕ) (t : Corners) →
+        VolumeCertificate depth t → VolumeCertificate (depth + 1) t }
 {}
 
 /// Halving downwards, which stops where the Bernstein coefficients are positive, finds a certificate exactly
