@@ -14,7 +14,7 @@ ghost use Rattle.pair_cert.specs.Tallies.{RisesAtMost, intervals_within};
 
 use crate::halves::half_moves;
 use crate::moves::{Half, RelativeMoves};
-use crate::planes::has_plane_throughout;
+use crate::planes::{has_plane_throughout, is_plane_guessed};
 use crate::relative::relative_moves;
 use crate::swept_boxes::do_swept_boxes_touch;
 use plane_cut::{FIRST_LIMIT, Tally};
@@ -30,22 +30,27 @@ pub fn certify_pair(a: &Part, b: &Part, tally: &mut Tally) -> bool
     requires near_left { StaysInTheBox a.now }
     requires near_right { StaysInTheBox b.now }
     ensures certificate { IsTrue result ↔ PairCertificate DEPTH (moves_of a.now) (moves_of b.now) }
-    ensures apart { IsTrue result → (p q : ℕ) → IsFraction p q → ¬ MeetAt p q (moves_of a.now) (moves_of b.now) }
+    ensures apart { IsTrue result →
+        (p q : ℕ) → IsFraction p q → ¬ MeetAt p q (moves_of a.now) (moves_of b.now) }
     ensures tally { RisesAtMost (intervals_within DEPTH) tally.old.n tally.new.n }
     ensures untouched { ¬ SweptBoxesTouch (moves_of a.now) (moves_of b.now) → tally.new.n ≡ tally.old.n }
 {
     let _count = tally.n;
+    let moves = relative_moves(a, b);
+    if is_plane_guessed(&moves) {
+        return true;
+    }
     if !do_swept_boxes_touch(a, b) {
         return true;
     }
-    is_certified(&relative_moves(a, b), DEPTH, tally)
+    is_certified(&moves, DEPTH, tally)
 }
 
 // Whether an interval with these relative moves is certified by so many halvings at most.
 fn is_certified(moves: &RelativeMoves, depth: u8, tally: &mut Tally) -> bool
     requires { All (HasRoom depth) (moves_in moves.now) }
-    ensures certificate { (xs ys : List Move) (j n : ℕ) → moves_in moves.now ≡ moves_within xs ys j n →
-        IsTrue result ↔ ByHalves (IsServed xs ys) depth j n }
+    ensures certificate { (xs ys : List Move) (j n : ℕ) →
+        moves_in moves.now ≡ moves_within xs ys j n → IsTrue result ↔ ByHalves (IsServed xs ys) depth j n }
     ensures tally { RisesAtMost (intervals_within depth) tally.old.n tally.new.n }
 {
     if has_plane_throughout(moves, tally) {

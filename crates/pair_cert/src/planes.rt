@@ -29,7 +29,7 @@ pub fn has_plane_throughout(moves: &RelativeMoves, tally: &mut Tally) -> bool
 }
 
 // Whether one of the guessed vectors serves. No says nothing.
-fn is_plane_guessed(moves: &RelativeMoves) -> bool
+pub fn is_plane_guessed(moves: &RelativeMoves) -> bool
     requires { All IsShort (moves_in moves.now) }
     ensures { IsTrue result → HasPlane (all_ends (moves_in moves.now)) }
 {

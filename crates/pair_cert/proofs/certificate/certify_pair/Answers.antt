@@ -7,9 +7,26 @@ use Rattle.safe_motion.proofs.Halving.{halves_from_each, each_from_halves}
 use Rattle.safe_motion.proofs.BoxLemmas.{untouched_is_certified}
 use Rattle.pair_cert.specs.Parts.{moves_of}
 use Rattle.pair_cert.proofs.Halvings.{moves-whole}
-use Rattle.pair_cert.proofs.Searches.{untouched}
+use Rattle.pair_cert.specs.Calls.Halves.{moves_in}
+use Rattle.pair_cert.proofs.Rooms.{short_now}
+use Rattle.pair_cert.proofs.Searches.{untouched, whole_served}
 use Rattle.pair_cert.proofs.Tallies.{stays}
 use Rattle.pair_cert.proofs.certificate.certify_pair.Goals as goal
+
+pub is_plane_guessed-requires : goal.is_plane_guessed-requires
+is_plane_guessed-requires c = short_now DEPTH (moves_in c.relative_moves-moves.result) c.relative_moves-moves.ensures.room
+
+pub returns-then-is_plane_guessed-clause-certificate : goal.returns-then-is_plane_guessed-clause-certificate
+returns-then-is_plane_guessed-clause-certificate c =
+    let xs = moves_of c.args.a.now in
+    let ys = moves_of c.args.b.now in
+    (λ t. whole_served xs ys DEPTH (moves_in c.relative_moves-moves.result) (c.relative_moves-moves.ensures.moves ∙ moves-whole xs ys) (c.is_plane_guessed.ensures c.if-is_plane_guessed.true), λ h. refl)
+
+pub returns-then-is_plane_guessed-clause-apart : goal.returns-then-is_plane_guessed-clause-apart
+returns-then-is_plane_guessed-clause-apart c = λ h. certified_apart DEPTH (moves_of c.args.a.now) (moves_of c.args.b.now) ((returns-then-is_plane_guessed-clause-certificate c).0 h)
+
+pub returns-then-is_plane_guessed-clause-tally : goal.returns-then-is_plane_guessed-clause-tally
+returns-then-is_plane_guessed-clause-tally c = stays _ c.args.tally.now.n (omega arith)
 
 pub returns-then-not-do_swept_boxes_touch-clause-certificate : goal.returns-then-not-do_swept_boxes_touch-clause-certificate
 returns-then-not-do_swept_boxes_touch-clause-certificate c =
@@ -30,7 +47,7 @@ pub returns-clause-certificate : goal.returns-clause-certificate
 returns-clause-certificate c =
     let xs = moves_of c.args.a.now in
     let ys = moves_of c.args.b.now in
-    let decided = c.is_certified.ensures.certificate xs ys 0 1 (c.relative_moves.ensures.moves ∙ moves-whole xs ys) in
+    let decided = c.is_certified.ensures.certificate xs ys 0 1 (c.relative_moves-moves.ensures.moves ∙ moves-whole xs ys) in
     (λ h. each_from_halves (IsServed xs ys) (served_inherited xs ys) DEPTH (decided.0 h), λ h. decided.1 (halves_from_each (IsServed xs ys) DEPTH h))
 
 pub returns-clause-apart : goal.returns-clause-apart
