@@ -7,7 +7,10 @@ use std::process::ExitCode;
 use std::rt::Env;
 use std::{env, io};
 
-/// The status where the system doesn't give the words. The top call never answers it.
+/// The status where memory for the words is wanting, as the top call answers it.
+const NO_MEMORY: u8 = 8;
+
+/// The status where the system doesn't give the words for another cause. The top call never answers it.
 const NO_WORDS: u8 = 70;
 
 // The words after the program's name. Words that aren't UTF-8 are of no known form, as no words are.
@@ -26,8 +29,10 @@ fn words(rt: &(impl Env + AllocGlobal)) -> io::Result<Vec<String>> {
 }
 
 fn main(rt: HostRuntime) -> ExitCode {
-    let Ok(words) = words(&rt) else {
-        return ExitCode::from(NO_WORDS);
+    let words = match words(&rt) {
+        Ok(words) => words,
+        Err(e) if e.kind() == io::ErrorKind::OutOfMemory => return ExitCode::from(NO_MEMORY),
+        Err(_) => return ExitCode::from(NO_WORDS),
     };
     let mut shelf = OsShelf::new(&rt);
     let mut console = OsSink::new(&rt);

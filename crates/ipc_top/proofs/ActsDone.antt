@@ -2,10 +2,11 @@
 use Rattle.std.proofs.Common.{◌≡◌, ℕ, List, [], ◌∷◌, ◌++◌, take, refl, ap, sym, subst, ◌∙◌, append_assoc, append-nil, Option, Some, None, Result, Ok, Err, IsErrAnd}
 use Rattle.std.specs.FinMap.{insert}
 use Rattle.std.specs.Io.KnownBytes.{append_known}
-use Rattle.shelf_io.specs.Shelf.{Files}
+use Rattle.shelf_io.specs.Shelf.{Files, ShelfState}
 use Rattle.ipc_top.specs.declared.acts.Stop.{Stop}
 use Rattle.ipc_top.specs.declared.acts.Stop.TheVariants as stops
-use Rattle.ipc_top.specs.Acts.{Act, Take, Put, Say, files_after, told_after, said, World, Did, IsLineOf, Next, Unread, Unwritten, Fails, Stops, Does}
+use Rattle.ipc_top.specs.Acts.{Act, Take, Put, Say, files_after, told_after, said, World, Did, ShelfStays, ReadFault, WriteFault, IsLineOf, Next, Unread, Unwritten, IsDue, Fails, Stops}
+use Rattle.ipc_top.specs.Calls.Acts.{Does}
 
 pub files_after-append : (xs ys : List Act) (fs : Files) → files_after (xs ++ ys) fs ≡ files_after ys (files_after xs fs)
 files_after-append [] ys fs = refl
@@ -41,7 +42,7 @@ told_after-nil (Some fs) = refl
 
 -- no act was done
 pub did_nothing : (w : World) → Did [] w w
-did_nothing w = record { files = told_after-nil w.shelf.files; written = append_known-nil w.console.written; read_faults = refl; write_faults = refl; faults = refl }
+did_nothing w = record { files = told_after-nil w.shelf.files; written = append_known-nil w.console.written; read_faults = refl; write_faults = refl; faults = refl; finished = λ e. e }
 
 -- these acts were done, and then those
 pub did_after : {old mid new : World} (xs ys : List Act) → Did xs old mid → Did ys mid new → Did (xs ++ ys) old new
@@ -51,6 +52,7 @@ did_after {old} {mid} {new} xs ys p q = record {
   read_faults = q.read_faults ∙ p.read_faults;
   write_faults = q.write_faults ∙ p.write_faults;
   faults = q.faults ∙ p.faults;
+  finished = λ e. q.finished (p.finished e);
 }
 
 -- some acts were done, and the next ones were stopped
@@ -67,16 +69,27 @@ stops_after xs ys p q = record {
 longer : {due later : List Act} {act : Act} (ys : List Act) → due ≡ act ∷ later → due ++ ys ≡ act ∷ (later ++ ys)
 longer ys e = ap (λ zs. zs ++ ys) e
 
-line_before : {due : List Act} {old new : Option Files} {line : List ℕ} (ys : List Act) → IsLineOf due old new line → IsLineOf (due ++ ys) old new line
-line_before ys (Next later next files) = Next (later ++ ys) (longer ys next) files
-line_before ys (Unread name later next is files) = Unread name (later ++ ys) (longer ys next) is files
-line_before ys (Unwritten name text later next is files) = Unwritten name text (later ++ ys) (longer ys next) is files
+due_before : {due : List Act} (ys : List Act) → IsDue due → IsDue (due ++ ys)
+due_before ys d = record { act = d.act; later = d.later ++ ys; next = longer ys d.next }
+
+read_before : {due : List Act} {old new : ShelfState} (ys : List Act) → ReadFault due old new → ReadFault (due ++ ys) old new
+read_before ys f = record { name = f.name; later = f.later ++ ys; next = longer ys f.next; files = f.files; failed = f.failed; rose = f.rose; write_faults = f.write_faults }
+
+write_before : {due : List Act} {old new : ShelfState} (ys : List Act) → WriteFault due old new → WriteFault (due ++ ys) old new
+write_before ys f = record { name = f.name; text = f.text; later = f.later ++ ys; next = longer ys f.next; files = f.files; failed = f.failed; rose = f.rose; read_faults = f.read_faults }
+
+line_before : {due : List Act} {old new : ShelfState} {line : List ℕ} (ys : List Act) → IsLineOf due old new line → IsLineOf (due ++ ys) old new line
+unfolding read_before write_before
+line_before ys (Next n) = Next (record { later = n.later ++ ys; next = longer ys n.next; stays = n.stays })
+line_before ys (Unread fault is) = Unread (read_before ys fault) is
+line_before ys (Unwritten fault is) = Unwritten (write_before ys fault) is
 
 fails_before : (stop : Stop) (due ys : List Act) (old new : World) → Fails stop due old new → Fails stop (due ++ ys) old new
-fails_before stops.Read due ys old new f = record { name = f.name; later = f.later ++ ys; next = longer ys f.next; files = f.files; written = f.written; failed = f.failed; rose = f.rose }
-fails_before stops.Write due ys old new f = record { name = f.name; text = f.text; later = f.later ++ ys; next = longer ys f.next; files = f.files; written = f.written; failed = f.failed; rose = f.rose }
+unfolding read_before write_before
+fails_before stops.Read due ys old new f = record { fault = read_before ys f.fault; written = f.written; faults = f.faults }
+fails_before stops.Write due ys old new f = record { fault = write_before ys f.fault; written = f.written; faults = f.faults }
 fails_before stops.Console due ys old new f = record { line = f.line; part = f.part; which = line_before ys f.which; written = f.written; rose = f.rose }
-fails_before stops.Memory due ys old new f = f
+fails_before stops.Memory due ys old new f = record { act = due_before ys f.act; shelf = f.shelf; console = f.console }
 
 -- what stops some acts, stops more of them
 pub stops_before : {stop : Stop} {old new : World} (xs ys : List Act) → Stops stop xs old new → Stops stop (xs ++ ys) old new
@@ -93,24 +106,40 @@ stops_before {stop} {old} {new} xs ys q = record {
 pub stops_first : {stop : Stop} {old new : World} (acts : List Act) → Fails stop acts old new → Stops stop acts old new
 stops_first {stop} {old} {new} acts f = record { done = []; due = acts; list = refl; between = old; did = did_nothing old; fails = f }
 
+-- an act of a list is due
+pub due_first : (act : Act) (later : List Act) → IsDue (act ∷ later)
+due_first act later = record { act = act; later = later; next = refl }
+
+pub shelf_stays : (s : ShelfState) → ShelfStays s s
+shelf_stays s = record { files = refl; read_faults = refl; write_faults = refl; finished = λ e. e }
+
 -- memory was wanting before the first act
-pub nothing_done : (acts : List Act) (w : World) → Stops stops.Memory acts w w
-nothing_done acts w = stops_first acts (record { files = refl; more = []; written = append_known-nil w.console.written })
+pub nothing_done : (acts : List Act) (w : World) → IsDue acts → Stops stops.Memory acts w w
+nothing_done acts w due = stops_first acts (record { act = due; shelf = shelf_stays w.shelf; console = refl })
 
 -- the same, as a `?` gives it
-pub lacks_memory : {T : Type 0} (acts : List Act) (result : Result T Stop) (w : World) → IsErrAnd result (λ e. e ≡ stops.Memory) → Does acts result w w
-lacks_memory acts (Ok x) w h = absurd h
-lacks_memory acts (Err e) w h = subst (λ (stop : Stop). Stops stop acts w w) (sym h) (nothing_done acts w)
+pub lacks_memory : {T : Type 0} (act : Act) (later : List Act) (result : Result T Stop) (w : World) → IsErrAnd result (λ e. e ≡ stops.Memory) → Does (act ∷ later) result w w
+lacks_memory act later (Ok x) w h = absurd h
+lacks_memory act later (Err e) w h = subst (λ (stop : Stop). Stops stop (act ∷ later) w w) (sym h) (nothing_done (act ∷ later) w (due_first act later))
+
+-- what a `?` hands on
+pub does_stopped : {T : Type 0} {stop : Stop} {old new : World} (acts : List Act) (result : Result T Stop) → IsErrAnd result (λ e. e ≡ stop) → Stops stop acts old new → Does acts result old new
+does_stopped acts (Ok x) is stops = absurd is
+does_stopped {old = old} {new = new} acts (Err e) is stops = subst (λ (s : Stop). Stops s acts old new) (sym is) stops
+
+-- some acts were done, and then the others or some of them
+pub does_then : {T : Type 0} (xs ys : List Act) (result : Result T Stop) (old mid new : World) → Did xs old mid → Does ys result mid new → Does (xs ++ ys) result old new
+does_then xs ys (Ok x) old mid new did does = did_after xs ys did does
+does_then xs ys (Err stop) old mid new did does = stops_after xs ys did does
+
+-- acts that are given otherwise
+pub does_same : {T : Type 0} (xs ys : List Act) (result : Result T Stop) (old new : World) → xs ≡ ys → Does xs result old new → Does ys result old new
+does_same xs ys result old new e does = subst (λ (acts : List Act). Does acts result old new) e does
 
 -- the same acts, given otherwise
 pub did_same : {old new : World} (xs ys : List Act) → xs ≡ ys → Did xs old new → Did ys old new
 did_same {old} {new} xs ys e did = subst (λ (acts : List Act). Did acts old new) e did
 
-pub stops_same : {stop : Stop} {old new : World} (xs ys : List Act) → xs ≡ ys → Stops stop xs old new → Stops stop ys old new
-stops_same {stop} {old} {new} xs ys e stops = subst (λ (acts : List Act). Stops stop acts old new) e stops
-
-pub same_say : {line line' : List ℕ} → line ≡ line' → Say line ∷ [] ≡ Say line' ∷ []
-same_say e = λ i. Say (e i) ∷ []
-
-pub same_put : {name name' text text' : List ℕ} → name ≡ name' → text ≡ text' → Put name text ∷ [] ≡ Put name' text' ∷ []
-same_put e h = λ i. Put (e i) (h i) ∷ []
+-- the acts of a start, given otherwise
+pub same_start : {line line' name name' text text' last : List ℕ} → line ≡ line' → name ≡ name' → text ≡ text' → Say line ∷ Put name text ∷ Say last ∷ [] ≡ Say line' ∷ Put name' text' ∷ Say last ∷ []
+same_start {last = last} e h k = λ i. Say (e i) ∷ Put (h i) (k i) ∷ Say last ∷ []

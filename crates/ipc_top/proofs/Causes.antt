@@ -1,173 +1,134 @@
--- What a run's end says of its words and of the devices.
-use Rattle.std.proofs.Common.{◌≡◌, ◌⊎◌, ℕ, inl, inr, refl, ap, sym, subst, ◌∙◌, Bool, true, false, List, [], ◌∷◌, ◌++◌, Option, Some, None, Result, Ok, Err, arith}
+-- What a plan's end says of the words and of the devices.
+use Rattle.std.proofs.Common.{◌≡◌, ◌⊎◌, ◌+◌, ℕ, inl, inr, refl, ap, sym, subst, ◌∙◌, Bool, true, false, List, [], ◌∷◌, ◌++◌, Option, Some, None, Result, Ok, Err, IsErrAnd, arith}
 use Rattle.std.specs.Prelude.{if◌then◌else◌}
 use Rattle.std.specs.List.{list_all}
-use Rattle.std.specs.FinMap.{get}
 use Rattle.shelf_io.specs.Shelf.{Files, Rose, IsIfTold}
+use Rattle.surface_mesh.specs.declared.setup.Setup.{Setup}
 use Rattle.frame_driver.specs.Frames.{Frame}
-use Rattle.ipc_top.specs.declared.acts.Stop.{Stop}
 use Rattle.ipc_top.specs.declared.acts.Stop.TheVariants as stops
-use Rattle.ipc_top.specs.Acts.{Take, Put, Say, World, Did, Stops}
-use Rattle.ipc_top.specs.Jobs.{Job, check_job, scene_job}
-use Rattle.ipc_top.specs.Orders.{Command, Check, RunScene, command_of, Outcome, Missing, TooLong, NotFirstForm, Defective, Accepted, Run, usage, frames_status, is_converged, after_mesh, JobCallsFor, SceneOutcome, NoScene, LongScene, Refused, Given, scene_outcome, SceneCallsFor, CommandCallsFor, CallsFor}
-use Rattle.ipc_top.specs.Ends.{IsOneOf, IsPlain, IsStatus, IsInput, status_of, Runs, Closes, Ends, Obeys, NoFault, Completes}
-use Rattle.ipc_top.specs.Phases.{CommandEnds}
-use Rattle.ipc_top.proofs.JobRuns.{one_job_run}
-use Rattle.ipc_top.proofs.SceneRuns.{one_scene_run}
+use Rattle.ipc_top.specs.declared.refusals.End.{End}
+use Rattle.ipc_top.specs.declared.refusals.End.TheVariants as ends
+use Rattle.ipc_top.specs.Acts.{Act, Take, Put, Say, World, Did, Stops}
+use Rattle.ipc_top.specs.CallsFor.{CommandCallsFor, CallsFor, usage_plan}
+use Rattle.ipc_top.specs.Commands.{Command, command_of}
+use Rattle.ipc_top.specs.Ends.{IsOneOf, IsPlain, IsStatus, IsInput, EndsWhole, Closes, Ends, NoFault, Completes}
+use Rattle.ipc_top.specs.Files.{Outcome}
+use Rattle.ipc_top.specs.Jobs.{Job}
+use Rattle.ipc_top.specs.Motions.{Start}
+use Rattle.ipc_top.specs.Moves.{Moves, frames_status, is_converged}
+use Rattle.ipc_top.specs.Plans.{Plan}
+use Rattle.ipc_top.specs.Roles.{Role, Seen, everywhere}
+use Rattle.ipc_top.specs.Calls.Files.{Takes}
+use Rattle.ipc_top.specs.Calls.Plans.{Follows, FollowsOne, Obeys, status_of}
+use Rattle.ipc_top.proofs.EachPlan.{OfEach, each_plan}
+use Rattle.ipc_top.proofs.OnePlan.{only_plan}
+use Rattle.ipc_top.proofs.UprightPlans.{plans_upright}
 
--- ---- one run
+-- ---- how an answer closes a plan
 
-one_called : (command : Option Command) (scenes meshes : Files) (a b : Run) → CommandCallsFor command scenes meshes a → CommandCallsFor command scenes meshes b → a ≡ b
-one_called None scenes meshes a b p q = p ∙ sym q
-one_called (Some (Check mesh out)) scenes meshes a b p q = one_job_run (check_job mesh out) (get meshes mesh) a b p q
-one_called (Some (RunScene name)) scenes meshes a b p q = one_scene_run name scenes meshes a b p q
-
-pub only_run : (words : List (List ℕ)) (scenes meshes : Files) (a b : Run) → CallsFor words scenes meshes a → CallsFor words scenes meshes b → a ≡ b
-only_run words scenes meshes a b p q = one_called (command_of words) scenes meshes a b p.by_command q.by_command
-
--- ---- how a helper's answer ends a run
-
-closes_of : (run : Run) (result : Result ℕ Stop) (old new : World) → Runs run result old new → Closes run (status_of result) old new
-closes_of run (Ok status) old new h =
-    let other : (n : ℕ) → status ≡ n → IsPlain n = λ n e. subst (λ (m : ℕ). IsPlain m) e h.1 in
+closed_whole : (plan : Plan) (status : ℕ) (old new : World) → IsPlain status → EndsWhole plan status old new → Closes plan status old new
+closed_whole plan status old new plain whole =
+    let other : (n : ℕ) → status ≡ n → IsPlain n = λ n e. subst (λ (m : ℕ). IsPlain m) e plain in
     record {
-      whole = λ _. (h.0, h.2);
+      whole = λ p. whole;
       read = λ e. absurd (cc (other 3 e));
       write = λ e. absurd (cc (other 4 e));
       console = λ e. absurd (cc (other 9 e));
       memory = λ e. absurd (cc (other 8 e));
     }
-closes_of run (Err stops.Read) old new h = record { whole = λ p. absurd (cc p); read = λ _. h; write = λ e. absurd (omega arith); console = λ e. absurd (omega arith); memory = λ e. absurd (omega arith) }
-closes_of run (Err stops.Write) old new h = record { whole = λ p. absurd (cc p); write = λ _. h; read = λ e. absurd (omega arith); console = λ e. absurd (omega arith); memory = λ e. absurd (omega arith) }
-closes_of run (Err stops.Console) old new h = record { whole = λ p. absurd (cc p); console = λ _. h; read = λ e. absurd (omega arith); write = λ e. absurd (omega arith); memory = λ e. absurd (omega arith) }
-closes_of run (Err stops.Memory) old new h = record { whole = λ p. absurd (cc p); memory = λ _. h; read = λ e. absurd (omega arith); write = λ e. absurd (omega arith); console = λ e. absurd (omega arith) }
 
-pub ends_of : (words : List (List ℕ)) (scenes meshes : Files) (result : Result ℕ Stop) (old new : World) → Obeys words scenes meshes result old new → Ends words scenes meshes (status_of result) old new
-ends_of words scenes meshes result old new h = record { run = h.run; called = h.called; closes = closes_of h.run result old new h.runs }
+closes_of : (plan : Plan) (result : Result ℕ End) (old new : World) → Follows plan result old new → Closes plan (status_of result) old new
+closes_of plan (Ok status) old new h = closed_whole plan status old new h.0 h.1
+closes_of plan (Err (ends.Refused status)) old new h = closed_whole plan status old new h.0 h.1
+closes_of plan (Err (ends.Stopped stops.Read)) old new h = record { whole = λ p. absurd (cc p); read = λ e. h; write = λ e. absurd (omega arith); console = λ e. absurd (omega arith); memory = λ e. absurd (omega arith) }
+closes_of plan (Err (ends.Stopped stops.Write)) old new h = record { whole = λ p. absurd (cc p); write = λ e. h; read = λ e. absurd (omega arith); console = λ e. absurd (omega arith); memory = λ e. absurd (omega arith) }
+closes_of plan (Err (ends.Stopped stops.Console)) old new h = record { whole = λ p. absurd (cc p); console = λ e. h; read = λ e. absurd (omega arith); write = λ e. absurd (omega arith); memory = λ e. absurd (omega arith) }
+closes_of plan (Err (ends.Stopped stops.Memory)) old new h = record { whole = λ p. absurd (cc p); memory = λ e. h; read = λ e. absurd (omega arith); write = λ e. absurd (omega arith); console = λ e. absurd (omega arith) }
 
--- ---- how a command's end obeys the words
+pub ends_some : {old new : World} (words : List (List ℕ)) (result : Result ℕ End) (done : Obeys (CallsFor words) result old new) → Ends words done.seen (status_of result) old new
+ends_some {old} {new} words result done = record {
+  plan = done.plan;
+  called = done.called;
+  closes = closes_of done.plan result old new done.follows;
+  upright = plans_upright words done.seen done.plan done.called;
+}
 
-told_is : (words : List (List ℕ)) (command : Command) (told : Option Files) (files other : Files) → Some command ≡ command_of words → IsInput words told files → IsIfTold told other → other ≡ files
-told_is words command None files other e input is = absurd cc
-told_is words command (Some told) files other e input is = sym (input ∙ is)
+-- where files are told, they were seen; else the words are no command, and no file counts
+told_call : (words : List (List ℕ)) (told : Option Files) (seen : Seen) (files : Files) (plan : Plan) → IsInput words told files → ((role : Role) → IsIfTold told (seen role)) → CallsFor words seen plan → CallsFor words (everywhere files) plan
+told_call words None seen files plan none is called =
+    record { by_command = subst (λ (c : Option Command). CommandCallsFor c (everywhere files) plan) (sym none) (subst (λ (c : Option Command). CommandCallsFor c seen plan) none called.by_command) }
+told_call words (Some told) seen files plan input is called =
+    let same : seen ≡ everywhere files = λ i role. (sym (input ∙ is role)) i in
+    subst (λ (s : Seen). CallsFor words s plan) same called
 
-obeys_by : {old new : World} (words : List (List ℕ)) (command : Option Command) (scenes meshes : Files) (run : Run) (result : Result ℕ Stop) → command ≡ command_of words → CommandCallsFor command scenes meshes run → Runs run result old new → Obeys words scenes meshes result old new
-obeys_by words command scenes meshes run result e called runs =
-    record { run = run; called = record { by_command = subst (λ (c : Option Command). CommandCallsFor c scenes meshes run) e called }; runs = runs }
-
-pub obeys_told : {old new : World} (words : List (List ℕ)) (command : Command) (files : Files) (result : Result ℕ Stop) → Some command ≡ command_of words → IsInput words old.shelf.files files → CommandEnds command result old new → Obeys words files files result old new
-obeys_told {old} words command files result e input ends =
-    let scenes = told_is words command old.shelf.files files ends.scenes e input ends.told_scenes in
-    let meshes = told_is words command old.shelf.files files ends.meshes e input ends.told_meshes in
-    obeys_by words (Some command) files files ends.run result e
-    (subst (λ (fs : Files). CommandCallsFor (Some command) files fs ends.run) meshes (subst (λ (fs : Files). CommandCallsFor (Some command) fs ends.meshes ends.run) scenes ends.called))
-    ends.runs
-
-pub obeys_some : {old new : World} (words : List (List ℕ)) (command : Command) (result : Result ℕ Stop) → Some command ≡ command_of words → CommandEnds command result old new → (scenes : Files) × (meshes : Files) × Obeys words scenes meshes result old new
-obeys_some words command result e ends = (ends.scenes, ends.meshes, obeys_by words (Some command) ends.scenes ends.meshes ends.run result e ends.called ends.runs)
-
-pub obeys_usage : {old new : World} (words : List (List ℕ)) (scenes meshes : Files) (result : Result ℕ Stop) → None ≡ command_of words → Runs usage result old new → Obeys words scenes meshes result old new
-obeys_usage words scenes meshes result e runs = obeys_by words None scenes meshes usage result e refl runs
-
--- a run ends with a status that isn't its own only where it is stopped
-pub not_status : (run : Run) (n : ℕ) (result : Result ℕ Stop) (old new : World) → ¬ (n ≡ run.status) → Runs run result old new → result ≡ Ok n → ⊥
-not_status run n result old new other runs e = other (subst (λ (r : Result ℕ Stop). Runs run r old new) e runs).0
+pub ends_told : {old new : World} (words : List (List ℕ)) (result : Result ℕ End) (files : Files) → IsInput words old.shelf.files files → Obeys (CallsFor words) result old new → Ends words (everywhere files) (status_of result) old new
+ends_told {old} {new} words result files input done =
+    let called = told_call words old.shelf.files done.seen files done.plan input done.told done.called in
+    record {
+      plan = done.plan;
+      called = called;
+      closes = closes_of done.plan result old new done.follows;
+      upright = plans_upright words (everywhere files) done.plan called;
+    }
 
 -- ---- the causes
 
 rose_since : (a b c : ℕ) → b ≡ a → Rose b c → Rose a c
 rose_since a b c e rose = subst (λ (n : ℕ). Rose n c) e rose
 
-pub read_fault : (words : List (List ℕ)) (scenes meshes : Files) (status : ℕ) (old new : World) → Ends words scenes meshes status old new → status ≡ 3 → Rose old.shelf.read_faults new.shelf.read_faults
-read_fault words scenes meshes status old new ends e =
-    let s = ends.closes.read e in
-    rose_since _ _ _ s.did.read_faults s.fails.rose
+pub read_cause : {old new : World} (plan : Plan) (status : ℕ) → Closes plan status old new → status ≡ 3 → Rose old.shelf.read_faults new.shelf.read_faults
+read_cause plan status closes e = let s = closes.read e in rose_since _ _ _ s.did.read_faults s.fails.fault.rose
 
-pub write_fault : (words : List (List ℕ)) (scenes meshes : Files) (status : ℕ) (old new : World) → Ends words scenes meshes status old new → status ≡ 4 → Rose old.shelf.write_faults new.shelf.write_faults
-write_fault words scenes meshes status old new ends e =
-    let s = ends.closes.write e in
-    rose_since _ _ _ s.did.write_faults s.fails.rose
+pub write_cause : {old new : World} (plan : Plan) (status : ℕ) → Closes plan status old new → status ≡ 4 → Rose old.shelf.write_faults new.shelf.write_faults
+write_cause plan status closes e = let s = closes.write e in rose_since _ _ _ s.did.write_faults s.fails.fault.rose
 
-pub console_fault : (words : List (List ℕ)) (scenes meshes : Files) (status : ℕ) (old new : World) → Ends words scenes meshes status old new → status ≡ 9 → Rose old.console.faults new.console.faults
-console_fault words scenes meshes status old new ends e =
-    let s = ends.closes.console e in
-    rose_since _ _ _ s.did.faults s.fails.rose
+pub console_cause : {old new : World} (plan : Plan) (status : ℕ) → Closes plan status old new → status ≡ 9 → Rose old.console.faults new.console.faults
+console_cause plan status closes e = let s = closes.console e in rose_since _ _ _ s.did.faults s.fails.rose
 
 -- ---- the statuses
 
--- it holds of each status that a command may owe
-record OfEach (P : ℕ → Type 0) : Type 0 where
-  converged : P 0
-  unfinished : P 1
-  unread : P 3
-  scene : P 5
-  text : P 6
-  defect : P 7
-  long : P 10
-
-frames_owe : (P : ℕ → Type 0) (frames : List Frame) → OfEach P → P (frames_status frames)
-frames_owe P frames each = by (list_all (λ frame. is_converged frame.end) frames)
+frames_owe : (P : ℕ → Type 0) (frames : List Frame) → P 0 → P 1 → P (frames_status frames)
+frames_owe P frames zero one = by (list_all (λ frame. is_converged frame.end) frames)
   where
     by : (all : Bool) → P (if all then 0 else 1)
-    by true = each.converged
-    by false = each.unfinished
+    by true = zero
+    by false = one
 
-mesh_owes : (P : ℕ → Type 0) (job : Job) (outcome : Outcome) (frames : List Frame) → OfEach P → P (after_mesh job outcome frames).status
-mesh_owes P job Missing frames each = each.unread
-mesh_owes P job TooLong frames each = each.long
-mesh_owes P job NotFirstForm frames each = each.text
-mesh_owes P job (Defective mesh defect) frames each = each.defect
-mesh_owes P job (Accepted mesh) frames each = frames_owe P frames each
+owed : (command : Option Command) (seen : Seen) (plan : Plan) → CommandCallsFor command seen plan → IsStatus plan.status
+owed None seen plan e = subst (λ (p : Plan). IsStatus p.status) (sym e) refl
+owed (Some command) seen plan h =
+    each_plan (λ p. IsStatus p.status) command seen plan
+    (record { three = λ acts. refl; five = λ acts. refl; six = λ acts. refl; seven = λ acts. refl; ten = λ acts. refl; taken = λ name p is. is; moves = λ job mesh frames none are. frames_owe IsStatus frames refl refl }) h
 
-job_owes : (P : ℕ → Type 0) (job : Job) (file : Option (List ℕ)) (run : Run) → OfEach P → JobCallsFor job file run → P run.status
-job_owes P job file run each h = subst (λ (r : Run). P r.status) (sym h.same) (mesh_owes P job h.outcome h.frames each)
-
-scene_owes : (P : ℕ → Type 0) (name : List ℕ) (outcome : SceneOutcome) (meshes : Files) (run : Run) → OfEach P → SceneCallsFor name outcome meshes run → P run.status
-scene_owes P name NoScene meshes run each e = subst (λ (r : Run). P r.status) (sym e) each.unread
-scene_owes P name LongScene meshes run each e = subst (λ (r : Run). P r.status) (sym e) each.long
-scene_owes P name (Refused err) meshes run each e = subst (λ (r : Run). P r.status) (sym e) each.scene
-scene_owes P name (Given scene) meshes run each h = job_owes P (scene_job scene) (get meshes scene.mesh) run each h
-
-command_owes : (P : ℕ → Type 0) (command : Command) (scenes meshes : Files) (run : Run) → OfEach P → CommandCallsFor (Some command) scenes meshes run → P run.status
-command_owes P (Check mesh out) scenes meshes run each h = job_owes P (check_job mesh out) (get meshes mesh) run each h
-command_owes P (RunScene name) scenes meshes run each h =
-    subst (λ (r : Run). P r.status) (sym h.same) (scene_owes P name (scene_outcome (get scenes name)) meshes h.rest each h.by_scene)
-
-owed : (command : Option Command) (scenes meshes : Files) (run : Run) → CommandCallsFor command scenes meshes run → IsStatus run.status
-owed None scenes meshes run e = subst (λ (r : Run). IsStatus r.status) (sym e) refl
-owed (Some command) scenes meshes run h =
-    command_owes IsStatus command scenes meshes run (record { converged = refl; unfinished = refl; unread = refl; scene = refl; text = refl; defect = refl; long = refl }) h
-
-pub answers : (words : List (List ℕ)) (scenes meshes : Files) (result : Result ℕ Stop) (old new : World) → Obeys words scenes meshes result old new → IsStatus (status_of result)
-answers words scenes meshes result old new h = by result h.runs
+pub answers : {old new : World} (words : List (List ℕ)) (result : Result ℕ End) → Obeys (CallsFor words) result old new → IsStatus (status_of result)
+answers {old} {new} words result done = by result done.follows
   where
-    by : (r : Result ℕ Stop) → Runs h.run r old new → IsStatus (status_of r)
-    by (Ok status) runs = subst (λ (n : ℕ). IsStatus n) (sym runs.0) (owed (command_of words) scenes meshes h.run h.called.by_command)
-    by (Err stops.Read) runs = refl
-    by (Err stops.Write) runs = refl
-    by (Err stops.Console) runs = refl
-    by (Err stops.Memory) runs = refl
+    by : (r : Result ℕ End) → Follows done.plan r old new → IsStatus (status_of r)
+    by (Ok status) h = subst (λ (n : ℕ). IsStatus n) (sym h.1.owed) (owed (command_of words) done.seen done.plan done.called.by_command)
+    by (Err (ends.Refused status)) h = subst (λ (n : ℕ). IsStatus n) (sym h.1.owed) (owed (command_of words) done.seen done.plan done.called.by_command)
+    by (Err (ends.Stopped stops.Read)) h = refl
+    by (Err (ends.Stopped stops.Write)) h = refl
+    by (Err (ends.Stopped stops.Console)) h = refl
+    by (Err (ends.Stopped stops.Memory)) h = refl
 
 -- ---- words that are no command
 
-not_two : (n : ℕ) → Type 0
-not_two n = n ≡ 2 → ⊥
+two_means : (command : Option Command) (seen : Seen) (plan : Plan) → CommandCallsFor command seen plan → plan.status ≡ 2 → command ≡ None
+two_means None seen plan h e = refl
+two_means (Some command) seen plan h e =
+    absurd (each_plan (λ p. p.status ≡ 2 → ⊥) command seen plan
+    (record { three = λ acts e. omega arith; five = λ acts e. omega arith; six = λ acts e. omega arith; seven = λ acts e. omega arith; ten = λ acts e. omega arith; taken = λ name p not e. not e; moves = λ job mesh frames none are. frames_owe (λ n. n ≡ 2 → ⊥) frames (λ e. omega arith) (λ e. omega arith) }) h e)
 
-two_means : (command : Option Command) (scenes meshes : Files) (run : Run) → CommandCallsFor command scenes meshes run → run.status ≡ 2 → command ≡ None
-unfolding not_two
-two_means None scenes meshes run h e = refl
-two_means (Some command) scenes meshes run h e =
-    absurd (command_owes not_two command scenes meshes run (record { converged = λ e. omega arith; unfinished = λ e. omega arith; unread = λ e. omega arith; scene = λ e. omega arith; text = λ e. omega arith; defect = λ e. omega arith; long = λ e. omega arith }) h e)
-
-pub usage_means : (words : List (List ℕ)) (scenes meshes : Files) (result : Result ℕ Stop) (old new : World) → Obeys words scenes meshes result old new → status_of result ≡ 2 → command_of words ≡ None
-usage_means words scenes meshes result old new h e = by result h.runs e
+pub usage_means : {old new : World} (words : List (List ℕ)) (result : Result ℕ End) → Obeys (CallsFor words) result old new → status_of result ≡ 2 → command_of words ≡ None
+usage_means {old} {new} words result done e = by result done.follows e
   where
-    by : (r : Result ℕ Stop) → Runs h.run r old new → status_of r ≡ 2 → command_of words ≡ None
-    by (Ok status) runs e = two_means (command_of words) scenes meshes h.run h.called.by_command (sym runs.0 ∙ e)
-    by (Err stops.Read) runs e = absurd (omega arith)
-    by (Err stops.Write) runs e = absurd (omega arith)
-    by (Err stops.Console) runs e = absurd (omega arith)
-    by (Err stops.Memory) runs e = absurd (omega arith)
+    by : (r : Result ℕ End) → Follows done.plan r old new → status_of r ≡ 2 → command_of words ≡ None
+    by (Ok status) h e = two_means (command_of words) done.seen done.plan done.called.by_command (sym h.1.owed ∙ e)
+    by (Err (ends.Refused status)) h e = two_means (command_of words) done.seen done.plan done.called.by_command (sym h.1.owed ∙ e)
+    by (Err (ends.Stopped stops.Read)) h e = absurd (omega arith)
+    by (Err (ends.Stopped stops.Write)) h e = absurd (omega arith)
+    by (Err (ends.Stopped stops.Console)) h e = absurd (omega arith)
+    by (Err (ends.Stopped stops.Memory)) h e = absurd (omega arith)
 
 not_in_none : {X : Type 0} (xs ys : List X) (x : X) → [] ≡ xs ++ x ∷ ys → ⊥
 not_in_none [] ys x e = cc
@@ -182,44 +143,75 @@ in_one (z ∷ xs) ys x y e =
 -- where one line is said, the shelf can't fail
 not_read : {old new : World} (line : List ℕ) → Stops stops.Read (Say line ∷ []) old new → ⊥
 not_read line s =
-    let e : Say line ≡ Take s.fails.name = in_one s.done s.fails.later (Take s.fails.name) (Say line) (s.list ∙ ap (λ acts. s.done ++ acts) s.fails.next) in
+    let f = s.fails.fault in
+    let e : Say line ≡ Take f.name = in_one s.done f.later (Take f.name) (Say line) (s.list ∙ ap (λ acts. s.done ++ acts) f.next) in
     cc
 
 not_written : {old new : World} (line : List ℕ) → Stops stops.Write (Say line ∷ []) old new → ⊥
 not_written line s =
-    let e : Say line ≡ Put s.fails.name s.fails.text = in_one s.done s.fails.later (Put s.fails.name s.fails.text) (Say line) (s.list ∙ ap (λ acts. s.done ++ acts) s.fails.next) in
+    let f = s.fails.fault in
+    let e : Say line ≡ Put f.name f.text = in_one s.done f.later (Put f.name f.text) (Say line) (s.list ∙ ap (λ acts. s.done ++ acts) f.next) in
     cc
 
-pub no_command : (words : List (List ℕ)) (scenes meshes : Files) (result : Result ℕ Stop) (old new : World) → Obeys words scenes meshes result old new → command_of words ≡ None → IsOneOf (2 ∷ 8 ∷ 9 ∷ []) (status_of result)
-no_command words scenes meshes result old new h e = by result (subst (λ (run : Run). Runs run result old new) calls h.runs)
+pub no_command : {old new : World} (words : List (List ℕ)) (result : Result ℕ End) → Obeys (CallsFor words) result old new → command_of words ≡ None → IsOneOf (2 ∷ 8 ∷ 9 ∷ []) (status_of result)
+no_command {old} {new} words result done e = by result (subst (λ (p : Plan). Follows p result old new) calls done.follows)
   where
-    calls : h.run ≡ usage
-    calls = subst (λ (c : Option Command). CommandCallsFor c scenes meshes h.run) e h.called.by_command
+    calls : done.plan ≡ usage_plan
+    calls = subst (λ (c : Option Command). CommandCallsFor c done.seen done.plan) e done.called.by_command
 
-    by : (r : Result ℕ Stop) → Runs usage r old new → IsOneOf (2 ∷ 8 ∷ 9 ∷ []) (status_of r)
-    by (Ok status) runs = subst (λ (n : ℕ). IsOneOf (2 ∷ 8 ∷ 9 ∷ []) n) (sym runs.0) refl
-    by (Err stops.Read) runs = absurd (not_read _ runs)
-    by (Err stops.Write) runs = absurd (not_written _ runs)
-    by (Err stops.Console) runs = refl
-    by (Err stops.Memory) runs = refl
+    two : (status : ℕ) → EndsWhole usage_plan status old new → IsOneOf (2 ∷ 8 ∷ 9 ∷ []) status
+    two status whole = subst (λ (n : ℕ). IsOneOf (2 ∷ 8 ∷ 9 ∷ []) n) (sym whole.owed) refl
+
+    by : (r : Result ℕ End) → Follows usage_plan r old new → IsOneOf (2 ∷ 8 ∷ 9 ∷ []) (status_of r)
+    by (Ok status) h = two status h.1
+    by (Err (ends.Refused status)) h = two status h.1
+    by (Err (ends.Stopped stops.Read)) h = absurd (not_read _ h)
+    by (Err (ends.Stopped stops.Write)) h = absurd (not_written _ h)
+    by (Err (ends.Stopped stops.Console)) h = refl
+    by (Err (ends.Stopped stops.Memory)) h = refl
 
 -- ---- where nothing fails
 
-completes_by : (words : List (List ℕ)) (files : Files) (result : Result ℕ Stop) (old new : World) (run : Run) → Obeys words files files result old new → CallsFor words files files run → NoFault old new
-    → (status_of result ≡ 8) ⊎ ((status_of result ≡ run.status) × Did run.acts old new)
-completes_by words files result old new run h called quiet = by result (subst (λ (r : Run). Runs r result old new) same h.runs)
-  where
-    same : h.run ≡ run
-    same = only_run words files files h.run run h.called called
+completes_by : {old new : World} (result : Result ℕ End) (plan : Plan) → Follows plan result old new → NoFault old new → (status_of result ≡ 8) ⊎ EndsWhole plan (status_of result) old new
+completes_by (Ok status) plan h quiet = inr h.1
+completes_by (Err (ends.Refused status)) plan h quiet = inr h.1
+completes_by (Err (ends.Stopped stops.Read)) plan h quiet = absurd (quiet.reads (rose_since _ _ _ h.did.read_faults h.fails.fault.rose))
+completes_by (Err (ends.Stopped stops.Write)) plan h quiet = absurd (quiet.writes (rose_since _ _ _ h.did.write_faults h.fails.fault.rose))
+completes_by (Err (ends.Stopped stops.Console)) plan h quiet = absurd (quiet.console (rose_since _ _ _ h.did.faults h.fails.rose))
+completes_by (Err (ends.Stopped stops.Memory)) plan h quiet = inl refl
 
-    by : (r : Result ℕ Stop) → Runs run r old new → (status_of r ≡ 8) ⊎ ((status_of r ≡ run.status) × Did run.acts old new)
-    by (Ok status) runs = inr (runs.0, runs.2)
-    by (Err stops.Read) runs = absurd (quiet.reads (rose_since _ _ _ runs.did.read_faults runs.fails.rose))
-    by (Err stops.Write) runs = absurd (quiet.writes (rose_since _ _ _ runs.did.write_faults runs.fails.rose))
-    by (Err stops.Console) runs = absurd (quiet.console (rose_since _ _ _ runs.did.faults runs.fails.rose))
-    by (Err stops.Memory) runs = inl refl
-
-pub completes : (words : List (List ℕ)) (result : Result ℕ Stop) (old new : World) → ((files : Files) → IsInput words old.shelf.files files → Obeys words files files result old new) → Completes words (status_of result) old new
-completes words result old new obeys = λ files run told called quiet.
+pub completes : {old new : World} (words : List (List ℕ)) (result : Result ℕ End) → Obeys (CallsFor words) result old new → Completes words (status_of result) old new
+completes {old} {new} words result done = λ files plan told called quiet.
     let input = subst (λ (o : Option Files). IsInput words o files) (sym told) refl in
-    completes_by words files result old new run (obeys files input) called quiet
+    let other = told_call words old.shelf.files done.seen files done.plan input done.told done.called in
+    let same : done.plan ≡ plan = only_plan words (everywhere files) done.plan plan other called in
+    completes_by result plan (subst (λ (p : Plan). Follows p result old new) same done.follows) quiet
+
+-- ---- a status that comes of no length
+
+-- what a motion ends with isn't that of a file that is too long
+pub not_ten : (old new : World) (plan : Plan) (result : Result ℕ End) → (plan.status ≡ 10 → ⊥) → Follows plan result old new → status_of result ≡ 10 → ⊥
+not_ten old new plan (Ok status) not h e = not (sym h.1.owed ∙ e)
+not_ten old new plan (Err (ends.Refused status)) not h e = not (sym h.1.owed ∙ e)
+not_ten old new plan (Err (ends.Stopped stops.Read)) not h e = omega arith
+not_ten old new plan (Err (ends.Stopped stops.Write)) not h e = omega arith
+not_ten old new plan (Err (ends.Stopped stops.Console)) not h e = omega arith
+not_ten old new plan (Err (ends.Stopped stops.Memory)) not h e = omega arith
+
+pub motion_not_ten : {old new : World} (job : Job) (setup : Setup) (start : Start) (result : Result ℕ End) → FollowsOne (Moves job setup start) result old new → status_of result ≡ 10 → ⊥
+motion_not_ten {old} {new} job setup start result one e =
+    let owed = subst (λ (p : Plan). p.status ≡ 10 → ⊥) (sym one.called.same) (frames_owe (λ n. n ≡ 10 → ⊥) one.called.frames (λ e. omega arith) (λ e. omega arith)) in
+    not_ten old new one.plan result owed one.follows e
+
+-- what a `?` hands on ends with 10 only as a refusal
+pub ten_refused : (end : End) (result : Result ℕ End) → IsErrAnd result (λ e. e ≡ end) → status_of result ≡ 10 → end ≡ ends.Refused 10
+ten_refused end (Ok status) is e = absurd is
+ten_refused end (Err (ends.Refused status)) is e = sym is ∙ ap ends.Refused e
+ten_refused end (Err (ends.Stopped stops.Read)) is e = absurd (omega arith)
+ten_refused end (Err (ends.Stopped stops.Write)) is e = absurd (omega arith)
+ten_refused end (Err (ends.Stopped stops.Console)) is e = absurd (omega arith)
+ten_refused end (Err (ends.Stopped stops.Memory)) is e = absurd (omega arith)
+
+-- a file that was not taken, or was refused, ends with 10 only for its length
+pub ten_taken : {X : Type 0} {old new : World} (name : List ℕ) (limit : ℕ) (Means : List ℕ → Outcome X → Type 0) (end : End) (result : Result ℕ End) → IsErrAnd result (λ e. e ≡ end) → Takes name limit Means (Err end) old new → status_of result ≡ 10 → new.shelf.taken ≡ limit + 1
+ten_taken name limit Means end result is taken e = taken.too_long (ap (λ (x : End). Err x) (ten_refused end result is e))

@@ -1,5 +1,5 @@
--- What comes of a mesh file: always one thing, and only one.
-use Rattle.std.proofs.Common.{◌≡◌, ◌⊎◌, ◌<◌, ◌≤◌, ◌^◌, ℕ, ℤ, inl, inr, refl, ap, sym, ◌∙◌, List, length, All, Option, Some, None, arith}
+-- What comes of a file: always one thing, and only one.
+use Rattle.std.proofs.Common.{◌≡◌, ◌<◌, ◌≤◌, ◌+◌, ◌^◌, ℕ, refl, ap, sym, subst, ◌∙◌, List, [], ◌∷◌, length, All, Option, Some, None, Result, Ok, Err, arith}
 use Rattle.std.specs.Option.{option_map_or}
 use Rattle.std.proofs.Math.Decide.{dec_le}
 use Rattle.space3.specs.declared.vectors.V3.{V3}
@@ -10,101 +10,142 @@ use Rattle.line_fields.specs.Lines.{rows}
 use Rattle.msh_text.specs.Reading.{Nodes, sections_at}
 use Rattle.msh_text.proofs.Again.{one_mesh, no_mesh, no_mesh-outside}
 use Rattle.msh_text.proofs.Found.{sections_mean}
+use Rattle.surface_mesh.specs.declared.setup.Setup.{Setup}
 use Rattle.surface_mesh.specs.declared.materials.Numbers.{Numbers}
 use Rattle.surface_mesh.specs.Setup.{setup_of}
 use Rattle.mesh_check.specs.declared.defects.Defect.{Defect}
 use Rattle.mesh_check.specs.Defects.{first_defect}
 use Rattle.list_laws.proofs.Decisions.{dec_All}
+use Rattle.scene_toml.specs.declared.scene.Scene.{Scene}
+use Rattle.scene_toml.specs.declared.refusal.SceneErr.{SceneErr}
+use Rattle.scene_toml.specs.Scenes.{scene_of_text}
+use Rattle.frame_driver.proofs.Decided.{dec_All}
 use Rattle.frame_driver.proofs.DecidedSteps.{dec_Within}
-use Rattle.ipc_top.specs.Orders.{Means, Outcome, Missing, TooLong, NotFirstForm, Defective, Accepted, IsOutcomeOfText, IsOutcome, mesh_limit}
-use Rattle.ipc_top.specs.Phases.{judged}
+use Rattle.ipc_top.specs.Acts.{Say}
+use Rattle.ipc_top.specs.CallsFor.{SceneMeans, scene_outcome}
+use Rattle.ipc_top.specs.Files.{Outcome, Accepted, Refused, FileMeans, Missing, TooLong, Whole}
+use Rattle.ipc_top.specs.Lines.{too_long_line, mesh_refused_line, defect_line, scene_refused_line}
+use Rattle.ipc_top.specs.Meshes.{Means, setup_outcome, MeshMeans, NoMesh, OfMesh}
+use Rattle.ipc_top.specs.Plans.{Plan, plan_of}
+use Rattle.ipc_top.proofs.ActsDone.{due_first}
+use Rattle.ipc_top.proofs.Taking.{OnRefused, IsTextRefusal}
 
--- ---- what is decided
+-- ---- a scene
+
+pub scene_refusal : (Q : Plan → Type 0) → ((err : SceneErr) → Q (plan_of (Say (scene_refused_line err) ∷ []) 5)) → (bytes : List ℕ) (o : Outcome Scene) → SceneMeans bytes o → OnRefused Q o
+scene_refusal Q q bytes o is = subst (λ (x : Outcome Scene). OnRefused Q x) (sym is) (by (scene_of_text bytes))
+  where
+    by : (read : Result Scene SceneErr) → OnRefused Q (scene_outcome read)
+    by (Ok scene) = tt
+    by (Err err) = q err
+
+pub scene_texts : (bytes : List ℕ) (o : Outcome Scene) → SceneMeans bytes o → OnRefused IsTextRefusal o
+scene_texts = scene_refusal IsTextRefusal (λ err. record { due = due_first (Say (scene_refused_line err)) []; not_ten = λ e. omega arith })
+
+pub some_scene : (bytes : List ℕ) → (o : Outcome Scene) × SceneMeans bytes o
+some_scene bytes = (scene_outcome (scene_of_text bytes), refl)
+
+-- ---- a mesh
+
+setup_refusal : (Q : Plan → Type 0) → ((mesh : Mesh) (defect : Defect) → Q (plan_of (Say (defect_line mesh defect) ∷ []) 7)) → (setup : Setup) → OnRefused Q (setup_outcome setup)
+setup_refusal Q q setup = by (first_defect setup)
+  where
+    by : (found : Option Defect) → OnRefused Q (option_map_or (λ defect. Refused (plan_of (Say (defect_line setup.mesh defect) ∷ []) 7)) found (Accepted setup))
+    by None = tt
+    by (Some defect) = q setup.mesh defect
+
+pub setup_texts : (setup : Setup) → OnRefused IsTextRefusal (setup_outcome setup)
+setup_texts = setup_refusal IsTextRefusal (λ mesh defect. record { due = due_first (Say (defect_line mesh defect)) []; not_ten = λ e. omega arith })
+
+-- bodies as they were built, and what was found in them
+pub found_of : (mesh : Mesh) (numbers : Numbers) (setup : Setup) (found : Option Defect) → setup ≡ setup_of mesh numbers → found ≡ first_defect setup
+    → option_map_or (λ defect. Refused (plan_of (Say (defect_line setup.mesh defect) ∷ []) 7)) found (Accepted setup) ≡ setup_outcome (setup_of mesh numbers)
+found_of mesh numbers setup found built is =
+    ap (λ (f : Option Defect). option_map_or (λ defect. Refused (plan_of (Say (defect_line setup.mesh defect) ∷ []) 7)) f (Accepted setup)) is ∙ ap setup_outcome built
+
+pub mesh_refusal : (Q : Plan → Type 0) → Q (plan_of (Say mesh_refused_line ∷ []) 6) → ((mesh : Mesh) (defect : Defect) → Q (plan_of (Say (defect_line mesh defect) ∷ []) 7)) → (numbers : Numbers) (bytes : List ℕ) (o : Outcome Setup) → MeshMeans numbers bytes o → OnRefused Q o
+mesh_refusal Q six seven numbers bytes o (NoMesh none is) = subst (λ (x : Outcome Setup). OnRefused Q x) (sym is) six
+mesh_refusal Q six seven numbers bytes o (OfMesh mesh means is) = subst (λ (x : Outcome Setup). OnRefused Q x) (sym is) (setup_refusal Q seven (setup_of mesh numbers))
+
+pub mesh_texts : (numbers : Numbers) (bytes : List ℕ) (o : Outcome Setup) → MeshMeans numbers bytes o → OnRefused IsTextRefusal o
+mesh_texts = mesh_refusal IsTextRefusal
+    (record { due = due_first (Say mesh_refused_line) []; not_ten = λ e. omega arith })
+    (λ mesh defect. record { due = due_first (Say (defect_line mesh defect)) []; not_ten = λ e. omega arith })
+
+-- bodies that are accepted are those of the text's mesh, and have no defect
+pub record IsAccepted (numbers : Numbers) (bytes : List ℕ) (setup : Setup) : Type 0 where
+  pub mesh : Mesh
+  pub means : Means bytes mesh
+  pub built : setup ≡ setup_of mesh numbers
+  pub none : first_defect setup ≡ None
+
+pub accepted : (numbers : Numbers) (bytes : List ℕ) (o : Outcome Setup) (setup : Setup) → MeshMeans numbers bytes o → o ≡ Accepted setup → IsAccepted numbers bytes setup
+accepted numbers bytes o setup (NoMesh none is) e = absurd cc
+accepted numbers bytes o setup (OfMesh mesh means is) e = by (first_defect (setup_of mesh numbers)) refl (sym is ∙ e)
+  where
+    by : (found : Option Defect) → first_defect (setup_of mesh numbers) ≡ found → option_map_or (λ defect. Refused (plan_of (Say (defect_line mesh defect) ∷ []) 7)) found (Accepted (setup_of mesh numbers)) ≡ Accepted setup → IsAccepted numbers bytes setup
+    by None none e = let same : setup_of mesh numbers ≡ setup = cc in record { mesh = mesh; means = means; built = sym same; none = subst (λ (s : Setup). first_defect s ≡ None) same none }
+    by (Some defect) none e = absurd cc
+
+pub one_mesh_outcome : (numbers : Numbers) (bytes : List ℕ) (a b : Outcome Setup) → MeshMeans numbers bytes a → MeshMeans numbers bytes b → a ≡ b
+one_mesh_outcome numbers bytes a b (NoMesh none is) (NoMesh none' is') = is ∙ sym is'
+one_mesh_outcome numbers bytes a b (NoMesh none is) (OfMesh mesh means is') = absurd (none mesh means)
+one_mesh_outcome numbers bytes a b (OfMesh mesh means is) (NoMesh none is') = absurd (none mesh means)
+one_mesh_outcome numbers bytes a b (OfMesh mesh means is) (OfMesh mesh' means' is') =
+    is ∙ ap (λ (m : Mesh). setup_outcome (setup_of m numbers)) (one_mesh (rows bytes) mesh mesh' means.first_form means'.first_form) ∙ sym is'
 
 dec_in_box : (places : List V3) → Dec (All IsInTheBox places)
 dec_in_box places = dec_All IsInTheBox (dec_Within (2 ^ 20)) places
 
--- ---- what comes of a text
-
--- a mesh is judged as it is
-pub judged_is : (numbers : Numbers) (mesh : Mesh) (bytes : List ℕ) → Means bytes mesh → IsOutcomeOfText numbers (judged numbers mesh) bytes
-judged_is numbers mesh bytes means = by (first_defect (setup_of mesh numbers)) refl
-  where
-    by : (found : Option Defect) → first_defect (setup_of mesh numbers) ≡ found → IsOutcomeOfText numbers (option_map_or (Defective mesh) found (Accepted mesh)) bytes
-    by None e = (means, e)
-    by (Some defect) e = (means, e)
-
--- the text means no mesh, or a mesh that is judged
-Decided : Numbers → Outcome → List ℕ → Type 0
-Decided numbers outcome bytes = ((outcome ≡ NotFirstForm) × ((mesh : Mesh) → Means bytes mesh → ⊥)) ⊎ ((mesh : Mesh) × Means bytes mesh × (outcome ≡ judged numbers mesh))
-
-decided : (numbers : Numbers) (outcome : Outcome) (bytes : List ℕ) → IsOutcomeOfText numbers outcome bytes → Decided numbers outcome bytes
-unfolding Decided
-decided numbers Missing bytes h = absurd h
-decided numbers TooLong bytes h = absurd h
-decided numbers NotFirstForm bytes h = inl (refl, h)
-decided numbers (Defective mesh defect) bytes h = inr (mesh, h.0, sym (ap (λ o. option_map_or (Defective mesh) o (Accepted mesh)) h.1))
-decided numbers (Accepted mesh) bytes h = inr (mesh, h.0, sym (ap (λ o. option_map_or (Defective mesh) o (Accepted mesh)) h.1))
-
-one_decided : (numbers : Numbers) (a b : Outcome) (bytes : List ℕ) → Decided numbers a bytes → Decided numbers b bytes → a ≡ b
-unfolding Decided
-one_decided numbers a b bytes (inl p) (inl q) = p.0 ∙ sym q.0
-one_decided numbers a b bytes (inl p) (inr q) = absurd (p.1 q.0 q.1)
-one_decided numbers a b bytes (inr p) (inl q) = absurd (q.1 p.0 p.1)
-one_decided numbers a b bytes (inr p) (inr q) = p.2 ∙ ap (judged numbers) (one_mesh (rows bytes) p.0 q.0 p.1.first_form q.1.first_form) ∙ sym q.2
-
 -- a text has an outcome
-pub text_outcome : (numbers : Numbers) (bytes : List ℕ) → (outcome : Outcome) × IsOutcomeOfText numbers outcome bytes
-text_outcome numbers bytes = by (sections_at (rows bytes)) refl
+pub some_mesh : (numbers : Numbers) (bytes : List ℕ) → (o : Outcome Setup) × MeshMeans numbers bytes o
+some_mesh numbers bytes = by (sections_at (rows bytes)) refl
   where
-    in_box : (read : Nodes × List Tet) → sections_at (rows bytes) ≡ Some read → Dec (All IsInTheBox read.0.places) → (outcome : Outcome) × IsOutcomeOfText numbers outcome bytes
+    refusal : ((mesh : Mesh) → ¬ Means bytes mesh) → (o : Outcome Setup) × MeshMeans numbers bytes o
+    refusal none = (Refused (plan_of (Say mesh_refused_line ∷ []) 6), NoMesh none refl)
+
+    in_box : (read : Nodes × List Tet) → sections_at (rows bytes) ≡ Some read → Dec (All IsInTheBox read.0.places) → (o : Outcome Setup) × MeshMeans numbers bytes o
     in_box read e (yes p) =
         let mesh : Mesh = record { numbers = read.0.numbers; places = read.0.places; tets = read.1 } in
-        (judged numbers mesh, judged_is numbers mesh bytes (record { first_form = sections_mean (rows bytes) read.0.numbers read.0.places read.1 e p }))
-    in_box read e (no p) = (NotFirstForm, λ mesh means. no_mesh-outside (rows bytes) read.0.numbers read.0.places read.1 mesh e p means.first_form)
+        (setup_outcome (setup_of mesh numbers), OfMesh mesh (record { first_form = sections_mean (rows bytes) read.0.numbers read.0.places read.1 e p }) refl)
+    in_box read e (no p) = refusal (λ mesh means. no_mesh-outside (rows bytes) read.0.numbers read.0.places read.1 mesh e p means.first_form)
 
-    by : (o : Option (Nodes × List Tet)) → sections_at (rows bytes) ≡ o → (outcome : Outcome) × IsOutcomeOfText numbers outcome bytes
-    by None e = (NotFirstForm, λ mesh means. no_mesh (rows bytes) mesh e means.first_form)
+    by : (o : Option (Nodes × List Tet)) → sections_at (rows bytes) ≡ o → (o : Outcome Setup) × MeshMeans numbers bytes o
+    by None e = refusal (λ mesh means. no_mesh (rows bytes) mesh e means.first_form)
     by (Some read) e = in_box read e (dec_in_box read.0.places)
 
--- ---- one outcome of a file
+-- ---- a file
 
-pub of_text : (numbers : Numbers) (outcome : Outcome) (bytes : List ℕ) → length bytes ≤ mesh_limit → IsOutcomeOfText numbers outcome bytes → IsOutcome numbers outcome (Some bytes)
-of_text numbers Missing bytes within h = absurd h
-of_text numbers TooLong bytes within h = absurd h
-of_text numbers NotFirstForm bytes within h = (within, h)
-of_text numbers (Defective mesh defect) bytes within h = (within, h)
-of_text numbers (Accepted mesh) bytes within h = (within, h)
-
-none_there : (numbers : Numbers) (outcome : Outcome) → IsOutcome numbers outcome None → outcome ≡ Missing
-none_there numbers Missing h = refl
-none_there numbers TooLong h = absurd h
-none_there numbers NotFirstForm h = absurd h
-none_there numbers (Defective mesh defect) h = absurd h
-none_there numbers (Accepted mesh) h = absurd h
-
-long_or_text : (numbers : Numbers) (outcome : Outcome) (bytes : List ℕ) → IsOutcome numbers outcome (Some bytes) → ((outcome ≡ TooLong) × (mesh_limit < length bytes)) ⊎ ((length bytes ≤ mesh_limit) × IsOutcomeOfText numbers outcome bytes)
-long_or_text numbers Missing bytes h = absurd cc
-long_or_text numbers TooLong bytes h = inl (refl, h)
-long_or_text numbers NotFirstForm bytes h = inr h
-long_or_text numbers (Defective mesh defect) bytes h = inr h
-long_or_text numbers (Accepted mesh) bytes h = inr h
-
-pub one_outcome : (numbers : Numbers) (a b : Outcome) (file : Option (List ℕ)) → IsOutcome numbers a file → IsOutcome numbers b file → a ≡ b
-one_outcome numbers a b None p q = none_there numbers a p ∙ sym (none_there numbers b q)
-one_outcome numbers a b (Some bytes) p q = by (long_or_text numbers a bytes p) (long_or_text numbers b bytes q)
+pub some_outcome : {X : Type 0} (name : List ℕ) (limit : ℕ) (Means : List ℕ → Outcome X → Type 0) (file : Option (List ℕ)) → ((bytes : List ℕ) → (o : Outcome X) × Means bytes o) → (o : Outcome X) × FileMeans name limit Means file o
+some_outcome {X} name limit Means None some = (Refused (plan_of [] 3), Missing refl refl)
+some_outcome {X} name limit Means (Some bytes) some = by (dec_le (length bytes) limit)
   where
-    by : ((a ≡ TooLong) × (mesh_limit < length bytes)) ⊎ ((length bytes ≤ mesh_limit) × IsOutcomeOfText numbers a bytes) → ((b ≡ TooLong) × (mesh_limit < length bytes)) ⊎ ((length bytes ≤ mesh_limit) × IsOutcomeOfText numbers b bytes) → a ≡ b
-    by (inl x) (inl y) = x.0 ∙ sym y.0
-    by (inl x) (inr y) = absurd (omega (arith, x.1, y.0))
-    by (inr x) (inl y) = absurd (omega (arith, x.0, y.1))
-    by (inr x) (inr y) = one_decided numbers a b bytes (decided numbers a bytes x.1) (decided numbers b bytes y.1)
+    by : Dec (length bytes ≤ limit) → (o : Outcome X) × FileMeans name limit Means (Some bytes) o
+    by (yes p) = ((some bytes).0, Whole bytes refl p (some bytes).1)
+    by (no p) = (Refused (plan_of (Say (too_long_line name (limit + 1)) ∷ []) 10), TooLong bytes refl (omega (arith, p)) refl)
 
--- a file has an outcome
-pub an_outcome : (numbers : Numbers) (file : Option (List ℕ)) → (outcome : Outcome) × IsOutcome numbers outcome file
-an_outcome numbers None = (Missing, refl)
-an_outcome numbers (Some bytes) = by (dec_le (length bytes) mesh_limit)
-  where
-    by : Dec (length bytes ≤ mesh_limit) → (outcome : Outcome) × IsOutcome numbers outcome (Some bytes)
-    by (yes p) = let found = text_outcome numbers bytes in (found.0, of_text numbers found.0 bytes p found.1)
-    by (no p) = (TooLong, omega (arith, p))
+clash : (limit : ℕ) (bs bs' : List ℕ) → bs ≡ bs' → limit < length bs → length bs' ≤ limit → ⊥
+clash limit bs bs' same long within = let e = ap length same in omega (arith, e)
+
+pub one_outcome : {X : Type 0} (name : List ℕ) (limit : ℕ) (Means : List ℕ → Outcome X → Type 0) (file : Option (List ℕ)) → ((bytes : List ℕ) (a b : Outcome X) → Means bytes a → Means bytes b → a ≡ b) → (a b : Outcome X) → FileMeans name limit Means file a → FileMeans name limit Means file b → a ≡ b
+one_outcome name limit Means file one a b (Missing p is) (Missing q is') = is ∙ sym is'
+one_outcome name limit Means file one a b (Missing p is) (TooLong bs q l is') = absurd cc
+one_outcome name limit Means file one a b (Missing p is) (Whole bs q l m) = absurd cc
+one_outcome name limit Means file one a b (TooLong bs p l is) (Missing q is') = absurd cc
+one_outcome name limit Means file one a b (TooLong bs p l is) (TooLong bs' q l' is') = is ∙ sym is'
+one_outcome name limit Means file one a b (TooLong bs p l is) (Whole bs' q l' m) = absurd (let same : bs ≡ bs' = cc in clash limit bs bs' same l l')
+one_outcome name limit Means file one a b (Whole bs p l m) (Missing q is') = absurd cc
+one_outcome name limit Means file one a b (Whole bs p l m) (TooLong bs' q l' is') = absurd (let same : bs' ≡ bs = cc in clash limit bs' bs same l' l)
+one_outcome name limit Means file one a b (Whole bs p l m) (Whole bs' q l' m') =
+    let same : bs ≡ bs' = cc in one bs' a b (subst (λ (x : List ℕ). Means x a) same m) m'
+
+pub file_refusal : {X : Type 0} (Q : Plan → Type 0) (name : List ℕ) (limit : ℕ) (Means : List ℕ → Outcome X → Type 0) (file : Option (List ℕ)) (o : Outcome X) → Q (plan_of [] 3) → Q (plan_of (Say (too_long_line name (limit + 1)) ∷ []) 10) → ((bytes : List ℕ) → Means bytes o → OnRefused Q o) → FileMeans name limit Means file o → OnRefused Q o
+file_refusal {X} Q name limit Means file o three ten text (Missing p is) = subst (λ (x : Outcome X). OnRefused Q x) (sym is) three
+file_refusal {X} Q name limit Means file o three ten text (TooLong bs p l is) = subst (λ (x : Outcome X). OnRefused Q x) (sym is) ten
+file_refusal {X} Q name limit Means file o three ten text (Whole bs p l m) = text bs m
+
+-- where a file's bodies are accepted, its bytes mean them
+pub file_accepted : (name : List ℕ) (limit : ℕ) (numbers : Numbers) (file : Option (List ℕ)) (o : Outcome Setup) (setup : Setup) → FileMeans name limit (MeshMeans numbers) file o → o ≡ Accepted setup → (bytes : List ℕ) × IsAccepted numbers bytes setup
+file_accepted name limit numbers file o setup (Missing p is) e = absurd cc
+file_accepted name limit numbers file o setup (TooLong bs p l is) e = absurd cc
+file_accepted name limit numbers file o setup (Whole bs p l m) e = (bs, accepted numbers bs o setup m e)

@@ -1,5 +1,5 @@
 -- What a program does outside, act by act.
-use Rattle.std.specs.Prelude.{◌≡◌, ◌⊎◌, ℕ, List, [], ◌∷◌, ◌++◌, take, Option, option_map, Result, Ok, Err}
+use Rattle.std.specs.Prelude.{◌≡◌, ◌⊎◌, ℕ, false, List, [], ◌∷◌, ◌++◌, take, Option, option_map}
 use Rattle.std.specs.FinMap.{insert}
 use Rattle.std.specs.Io.KnownBytes.{append_known}
 use Rattle.shelf_io.specs.Shelf.{Files, ShelfState, SinkState, Rose, IsIfTold, with_file}
@@ -43,6 +43,10 @@ world shelf console = record { shelf = shelf; console = console }
 abbrev pub Wrote : List ℕ → World → World → Type 0
 Wrote text old new = new.console.written ≡ append_known old.console.written text
 
+-- what was being made is finished: where no file was being made, none is
+abbrev pub Finished : ShelfState → ShelfState → Type 0
+Finished old new = old.writing ≡ false → new.writing ≡ false
+
 -- all these acts were done, and nothing failed
 pub record Did (acts : List Act) (old new : World) : Type 0 where
   pub files : new.shelf.files ≡ told_after acts old.shelf.files
@@ -50,58 +54,90 @@ pub record Did (acts : List Act) (old new : World) : Type 0 where
   pub read_faults : new.shelf.read_faults ≡ old.shelf.read_faults
   pub write_faults : new.shelf.write_faults ≡ old.shelf.write_faults
   pub faults : new.console.faults ≡ old.console.faults
+  pub finished : Finished old.shelf new.shelf
+
+-- the files and the counts of a shelf are as they were
+pub record ShelfStays (old new : ShelfState) : Type 0 where
+  pub files : new.files ≡ old.files
+  pub read_faults : new.read_faults ≡ old.read_faults
+  pub write_faults : new.write_faults ≡ old.write_faults
+  pub finished : Finished old new
+
+-- the shelf failed at a file that was due to be read
+pub record ReadFault (due : List Act) (old new : ShelfState) : Type 0 where
+  pub name : List ℕ
+  pub later : List Act
+  pub next : due ≡ Take name ∷ later
+  pub files : new.files ≡ old.files
+  pub failed : IsIfTold new.failed name
+  pub rose : Rose old.read_faults new.read_faults
+  pub write_faults : new.write_faults ≡ old.write_faults
 
 -- a file is as it was, or holds a front of its text; all other files are as they were
 abbrev pub PutInPart : (name text : List ℕ) → Option Files → Option Files → Type 0
 PutInPart name text old new = (new ≡ old) ⊎ ((n : ℕ) × (new ≡ with_file name (take n text) old))
 
--- the shelf failed at a file that was due to be read, and the console got the fault's line
-pub record TakeFails (due : List Act) (old new : World) : Type 0 where
-  pub name : List ℕ
-  pub later : List Act
-  pub next : due ≡ Take name ∷ later
-  pub files : new.shelf.files ≡ old.shelf.files
-  pub written : Wrote (read_fault_line name) old new
-  pub failed : IsIfTold new.shelf.failed name
-  pub rose : Rose old.shelf.read_faults new.shelf.read_faults
-
--- the shelf failed at a file that was due to be made, and the console got the fault's line
-pub record PutFails (due : List Act) (old new : World) : Type 0 where
+-- the shelf failed at a file that was due to be made
+pub record WriteFault (due : List Act) (old new : ShelfState) : Type 0 where
   pub name : List ℕ
   pub text : List ℕ
   pub later : List Act
   pub next : due ≡ Put name text ∷ later
-  pub files : PutInPart name text old.shelf.files new.shelf.files
-  pub written : Wrote (write_fault_line name) old new
-  pub failed : IsIfTold new.shelf.failed name
-  pub rose : Rose old.shelf.write_faults new.shelf.write_faults
+  pub files : PutInPart name text old.files new.files
+  pub failed : IsIfTold new.failed name
+  pub rose : Rose old.write_faults new.write_faults
+  pub read_faults : new.read_faults ≡ old.read_faults
+
+-- a line was due to be said
+pub record LineDue (due : List Act) (line : List ℕ) (old new : ShelfState) : Type 0 where
+  pub later : List Act
+  pub next : due ≡ Say line ∷ later
+  pub stays : ShelfStays old new
+
+-- a file could not be read, and the console got the fault's line
+pub record TakeFails (due : List Act) (old new : World) : Type 0 where
+  pub fault : ReadFault due old.shelf new.shelf
+  pub written : Wrote (read_fault_line fault.name) old new
+  pub faults : new.console.faults ≡ old.console.faults
+
+-- a file could not be made, and the console got the fault's line
+pub record PutFails (due : List Act) (old new : World) : Type 0 where
+  pub fault : WriteFault due old.shelf new.shelf
+  pub written : Wrote (write_fault_line fault.name) old new
+  pub faults : new.console.faults ≡ old.console.faults
 
 -- a line that may be said while these acts are due: the next one, or that of a fault at the next act
-pub data IsLineOf (due : List Act) (old new : Option Files) (line : List ℕ) : Type 0 where
-  Next : (later : List Act) → due ≡ Say line ∷ later → new ≡ old → IsLineOf due old new line
-  Unread : (name : List ℕ) (later : List Act) → due ≡ Take name ∷ later → line ≡ read_fault_line name → new ≡ old → IsLineOf due old new line
-  Unwritten : (name text : List ℕ) (later : List Act) → due ≡ Put name text ∷ later → line ≡ write_fault_line name → PutInPart name text old new → IsLineOf due old new line
+pub data IsLineOf (due : List Act) (old new : ShelfState) (line : List ℕ) : Type 0 where
+  Next : LineDue due line old new → IsLineOf due old new line
+  Unread : (fault : ReadFault due old new) → line ≡ read_fault_line fault.name → IsLineOf due old new line
+  Unwritten : (fault : WriteFault due old new) → line ≡ write_fault_line fault.name → IsLineOf due old new line
 
 -- the console failed, and got a front of a line
 pub record SayFails (due : List Act) (old new : World) : Type 0 where
   pub line : List ℕ
   pub part : ℕ
-  pub which : IsLineOf due old.shelf.files new.shelf.files line
+  pub which : IsLineOf due old.shelf new.shelf line
   pub written : Wrote (take part line) old new
   pub rose : Rose old.console.faults new.console.faults
 
--- memory was wanting; what the console got then isn't said
-pub record LacksMemory (old new : World) : Type 0 where
-  pub files : new.shelf.files ≡ old.shelf.files
-  pub more : List ℕ
-  pub written : Wrote more old new
+-- an act is due
+pub record IsDue (due : List Act) : Type 0 where
+  pub act : Act
+  pub later : List Act
+  pub next : due ≡ act ∷ later
+
+-- memory was wanting while an act was due, and all is as it was
+pub record LacksMemory (due : List Act) (old new : World) : Type 0 where
+  pub act : IsDue due
+  pub shelf : ShelfStays old.shelf new.shelf
+  pub console : new.console ≡ old.console
 
 -- what stops the acts that are due
 abbrev pub Fails : Stop → List Act → World → World → Type 0
 Fails stops.Read due = TakeFails due
 Fails stops.Write due = PutFails due
 Fails stops.Console due = SayFails due
-Fails stops.Memory due = LacksMemory
+Fails stops.Memory due = LacksMemory due
 
 -- some first acts were done, up to a world between, and what stopped the others was this
 pub record Stops (stop : Stop) (acts : List Act) (old new : World) : Type 0 where
@@ -111,8 +147,3 @@ pub record Stops (stop : Stop) (acts : List Act) (old new : World) : Type 0 wher
   pub between : World
   pub did : Did done old between
   pub fails : Fails stop due between new
-
--- the acts were done, or were stopped
-abbrev pub Does : {T : Type 0} → List Act → Result T Stop → World → World → Type 0
-Does acts (Ok x) old new = Did acts old new
-Does acts (Err stop) old new = Stops stop acts old new

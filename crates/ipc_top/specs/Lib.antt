@@ -1,8 +1,13 @@
 pub mod Acts
+pub mod Calls
+pub mod CallsFor
+pub mod Commands
 pub mod Ends
+pub mod Files
 pub mod Jobs
 pub mod Lines
-pub mod Orders
-pub mod Phases
-pub mod Turns
-pub mod Words
+pub mod Meshes
+pub mod Motions
+pub mod Moves
+pub mod Plans
+pub mod Roles

@@ -1,15 +1,16 @@
-//! The acts of a run, each done whole or stopped.
+//! The acts, each done whole or stopped.
 ghost use Rattle.std.specs.Prelude.{◌≡◌, ◌∷◌, [], ◌≤◌, ◌<◌, ◌+◌, ◌^◌, length, IfOk, IfSome, IfNone, option_map};
 ghost use Rattle.std.specs.FinMap.{get};
 ghost use Rattle.shelf_io.specs.Shelf.{ShelfState};
-ghost use Rattle.ipc_top.specs.Acts.{Take, Put, Say, Does, world};
-ghost use Rattle.ipc_top.specs.Ends.{IsTaken};
+ghost use Rattle.ipc_top.specs.Acts.{Take, Put, Say, world};
+ghost use Rattle.ipc_top.specs.Calls.Acts.{Does};
+ghost use Rattle.ipc_top.specs.Calls.Files.{IsTaken};
 
 use crate::lines::{read_fault_line, write_fault_line};
 use shelf_io::{ReadErr, Shelf, Sink, read_all, say_all, write_all};
 use std::alloc::{AllocError, Global};
 
-/// Why a run ended before its last act.
+/// What stopped an act.
 #[derive(Clone, Copy, Debug, PartialEq, Eq)]
 pub enum Stop {
     /// A file could not be read.
@@ -53,7 +54,8 @@ pub fn put<S: Shelf, C: Sink>(
     text: &[u8],
 ) -> Result<(), Stop>
     ensures { Does (Put name.now text.now ∷ []) result
-        (world (S.state shelf.old) (C.state console.old)) (world (S.state shelf.new) (C.state console.new)) }
+        (world (S.state shelf.old) (C.state console.old))
+        (world (S.state shelf.new) (C.state console.new)) }
 {
     let line = write_fault_line(alloc, name)?;
     match write_all(shelf, name, text) {
@@ -76,8 +78,10 @@ pub fn take<S: Shelf, C: Sink>(
 ) -> Result<Option<Vec<u8>>, Stop>
     requires { limit < 2 ^ 63 }
     ensures does { Does (Take name.now ∷ []) result
-        (world (S.state shelf.old) (C.state console.old)) (world (S.state shelf.new) (C.state console.new)) }
-    ensures told { IfOk result (λ taken. IfSome (S.state shelf.old).files (λ files. IsTaken limit (get files name.now) (option_map (λ v. v.items) taken))) }
+        (world (S.state shelf.old) (C.state console.old))
+        (world (S.state shelf.new) (C.state console.new)) }
+    ensures told { IfOk result (λ taken. IfSome (S.state shelf.old).files (λ files.
+        IsTaken limit (get files name.now) (option_map (λ v. v.items) taken))) }
     ensures within { IfOk result (λ taken. IfSome taken (λ v. length v.items ≤ limit)) }
     ensures too_long { IfOk result (λ taken. IfNone taken ((S.state shelf.new).taken ≡ limit + 1)) }
 {

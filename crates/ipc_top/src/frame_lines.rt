@@ -1,8 +1,8 @@
 //! The texts of a frame: the name of its file, the file, and its line.
-ghost use Rattle.std.specs.Prelude.{◌≡◌, ◌≤◌, ◌++◌, length, replicate, decimal, string_bytes, IfOk, OnOk};
+ghost use Rattle.std.specs.Prelude.{◌≡◌, ◌++◌, length, replicate, decimal, string_bytes, IfOk, OnOk};
 ghost use Rattle.space3.specs.Mesh.{IsSound};
 ghost use Rattle.msh_text.specs.Frame.{frame_text};
-ghost use Rattle.ipc_top.specs.Jobs as jobs;
+ghost use Rattle.ipc_top.specs.Moves as moves;
 ghost use Rattle.ipc_top.specs.Lines as lines;
 
 use crate::lines::add_number;
@@ -54,7 +54,7 @@ fn add_zeros(name: &mut String, count: usize) -> Result<(), AllocError>
 
 // Adds a number with zeros before it, so that it has at least four digits.
 fn add_four_digits(name: &mut String, n: u32) -> Result<(), AllocError>
-    ensures { OnOk result (string_bytes name.new ≡ string_bytes name.old ++ jobs.four_digits n) }
+    ensures { OnOk result (string_bytes name.new ≡ string_bytes name.old ++ moves.four_digits n) }
 {
     let mut buffer = Buffer::new();
     let digits = buffer.format(n);
@@ -62,11 +62,10 @@ fn add_four_digits(name: &mut String, n: u32) -> Result<(), AllocError>
     name.push_str(digits)
 }
 
-/// The name of a frame's file: `out`, and the frame's number with four digits, as in `out_0012.msh`. Condition: the
-/// number is at most 9999.
+/// The name of a frame's file: `out`, and the frame's number with at least four digits, as in
+/// `out_0012.msh`.
 pub fn frame_name(alloc: Global, out: &str, frame: u32) -> Result<String, AllocError>
-    requires { frame ≤ 9999 }
-    ensures { IfOk result (λ name. string_bytes name ≡ jobs.frame_name out.now frame) }
+    ensures { IfOk result (λ name. string_bytes name ≡ moves.frame_name out.now frame) }
 {
     let mut name = String::from_str(alloc, out)?;
     name.push_str("_")?;

@@ -1,22 +1,22 @@
 //! All that the program does outside, over any shelf and any console.
 //!
-//! `words` is the command line, `lines` the texts of the console, `acts` the single acts, `refusals` the runs that end
-//! in a refusal, `job` the work of a job, `frames` and `frame_lines` its frames, `check` and `scene` the jobs of the two
-//! commands, `run` the top call.
+//! `top` is the top call, `words` the command line, `commands` what each command does, `scene` and `mesh` the files that
+//! are taken, `job` what a command works on, `motion` and `frames` the frames that it shows, `refusals` what ends a
+//! command before, `acts` the single acts, `lines` and `frame_lines` the texts.
 #![tactic(auto)]
 
 mod acts;
-mod check;
+mod commands;
+mod files;
 mod frame_lines;
 mod frames;
 mod job;
 mod lines;
+mod mesh;
+mod motion;
 mod refusals;
-mod run;
 mod scene;
+mod top;
 mod words;
 
-pub use run::{ipc_run, one_run};
-
-#[cfg(test)]
-mod tests;
+pub use top::{ipc_run, one_plan, plans_stay_upright};

@@ -1,10 +1,12 @@
-//! Runs that end in a refusal: one line, and its status.
-ghost use Rattle.std.specs.Prelude.{◌≡◌, ◌∷◌, [], ◌+◌, ◌<◌, ◌^◌};
+//! What ends a command before its work: a refusal, which is one line with its status, or an act that was stopped.
+ghost use Rattle.std.specs.Prelude.{◌≡◌, ◌∷◌, [], ◌+◌, ◌<◌, ◌^◌, List, ℕ, IfOk, Err};
 ghost use Rattle.shelf_io.specs.Shelf.{ShelfState};
 ghost use Rattle.ipc_top.specs.Acts.{Say, world};
+ghost use Rattle.ipc_top.specs.CallsFor.{usage_plan};
+ghost use Rattle.ipc_top.specs.Ends.{IsPlain};
 ghost use Rattle.ipc_top.specs.Lines as specs;
-ghost use Rattle.ipc_top.specs.Orders.{run_of, usage};
-ghost use Rattle.ipc_top.specs.Ends.{IsPlain, Runs};
+ghost use Rattle.ipc_top.specs.Plans.{plan_of};
+ghost use Rattle.ipc_top.specs.Calls.Plans.{Follows};
 
 use crate::acts::{Stop, say};
 use crate::lines::{MESH_REFUSED_LINE, USAGE_LINE, defect_line, scene_refused_line, too_long_line};
@@ -12,56 +14,90 @@ use mesh_check::Defect;
 use scene_toml::SceneErr;
 use shelf_io::Sink;
 use space3::Mesh;
-use std::alloc::Global;
+use std::alloc::{AllocError, Global};
 
-// Says the last line of a run.
-fn end_with<C: Sink>(console: &mut C, line: &[u8], status: u8) -> Result<u8, Stop>
+/// What ended a command before its work was done.
+#[derive(Clone, Copy, Debug, PartialEq, Eq)]
+pub enum End {
+    /// Words or a file were refused with this status, and the refusal's line was said.
+    Refused(u8),
+    /// An act was stopped.
+    Stopped(Stop),
+}
+
+impl From<Stop> for End {
+    ghost use Rattle.std.specs.Prelude.{◌≡◌};
+    ghost use Rattle.ipc_top.specs.declared.refusals.End.TheVariants.{Stopped};
+
+    ghost from_gives = { λ stop e. e ≡ Stopped stop };
+
+    fn from(stop: Stop) -> Self {
+        End::Stopped(stop)
+    }
+}
+
+// Says a refusal's line.
+fn refuse_with<C: Sink>(console: &mut C, line: &[u8], status: u8) -> End
     requires { IsPlain status }
-    ensures { (s : ShelfState) → Runs (run_of (Say line.now ∷ []) status) result
+    ensures { (s : ShelfState) → Follows (plan_of (Say line.now ∷ []) status) (Err result)
         (world s (C.state console.old)) (world s (C.state console.new)) }
 {
-    say(console, line)?;
-    Ok(status)
+    match say(console, line) {
+        Ok(()) => End::Refused(status),
+        Err(stop) => End::Stopped(stop),
+    }
+}
+
+// The same, where memory for the line may have been wanting.
+fn refuse_if_made<C: Sink>(
+    console: &mut C,
+    made: Result<Vec<u8>, AllocError>,
+    status: u8,
+) -> End
+    requires { IsPlain status }
+    ensures { (s : ShelfState) (line : List ℕ) → IfOk made (λ v. v.items ≡ line)
+        → Follows (plan_of (Say line ∷ []) status) (Err result)
+        (world s (C.state console.old)) (world s (C.state console.new)) }
+{
+    match made {
+        Ok(line) => refuse_with(console, &line, status),
+        Err(_) => End::Stopped(Stop::Memory),
+    }
 }
 
 /// Says how the program is called.
-pub fn refuse_words<C: Sink>(console: &mut C) -> Result<u8, Stop>
-    ensures { (s : ShelfState) → Runs usage result
+pub fn refuse_words<C: Sink>(console: &mut C) -> End
+    ensures { (s : ShelfState) → Follows usage_plan (Err result)
         (world s (C.state console.old)) (world s (C.state console.new)) }
 {
-    end_with(console, USAGE_LINE, 2)
+    refuse_with(console, USAGE_LINE, 2)
 }
 
 /// Refuses a file that has more than `limit` bytes. Condition: `limit` is below 2^63.
-pub fn refuse_too_long<C: Sink>(
-    alloc: Global,
-    console: &mut C,
-    name: &str,
-    limit: u64,
-) -> Result<u8, Stop>
+pub fn refuse_too_long<C: Sink>(alloc: Global, console: &mut C, name: &str, limit: u64) -> End
     requires { limit < 2 ^ 63 }
-    ensures { (s : ShelfState) → Runs (run_of (Say (specs.too_long_line name.now (limit + 1)) ∷ []) 10) result
+    ensures { (s : ShelfState) →
+        Follows (plan_of (Say (specs.too_long_line name.now (limit + 1)) ∷ []) 10) (Err result)
         (world s (C.state console.old)) (world s (C.state console.new)) }
 {
-    let line = too_long_line(alloc, name, limit + 1)?;
-    end_with(console, &line, 10)
+    refuse_if_made(console, too_long_line(alloc, name, limit + 1), 10)
 }
 
 /// Refuses a scene.
-pub fn refuse_scene<C: Sink>(alloc: Global, console: &mut C, err: &SceneErr) -> Result<u8, Stop>
-    ensures { (s : ShelfState) → Runs (run_of (Say (specs.scene_refused_line err.now) ∷ []) 5) result
+pub fn refuse_scene<C: Sink>(alloc: Global, console: &mut C, err: &SceneErr) -> End
+    ensures { (s : ShelfState) →
+        Follows (plan_of (Say (specs.scene_refused_line err.now) ∷ []) 5) (Err result)
         (world s (C.state console.old)) (world s (C.state console.new)) }
 {
-    let line = scene_refused_line(alloc, err)?;
-    end_with(console, &line, 5)
+    refuse_if_made(console, scene_refused_line(alloc, err), 5)
 }
 
 /// Refuses a mesh text that isn't in the first form.
-pub fn refuse_mesh<C: Sink>(console: &mut C) -> Result<u8, Stop>
-    ensures { (s : ShelfState) → Runs (run_of (Say specs.mesh_refused_line ∷ []) 6) result
+pub fn refuse_mesh<C: Sink>(console: &mut C) -> End
+    ensures { (s : ShelfState) → Follows (plan_of (Say specs.mesh_refused_line ∷ []) 6) (Err result)
         (world s (C.state console.old)) (world s (C.state console.new)) }
 {
-    end_with(console, MESH_REFUSED_LINE, 6)
+    refuse_with(console, MESH_REFUSED_LINE, 6)
 }
 
 /// Refuses a mesh for a defect.
@@ -70,10 +106,10 @@ pub fn refuse_defect<C: Sink>(
     console: &mut C,
     mesh: &Mesh,
     defect: Defect,
-) -> Result<u8, Stop>
-    ensures { (s : ShelfState) → Runs (run_of (Say (specs.defect_line mesh.now defect) ∷ []) 7) result
+) -> End
+    ensures { (s : ShelfState) →
+        Follows (plan_of (Say (specs.defect_line mesh.now defect) ∷ []) 7) (Err result)
         (world s (C.state console.old)) (world s (C.state console.new)) }
 {
-    let line = defect_line(alloc, mesh, defect)?;
-    end_with(console, &line, 7)
+    refuse_if_made(console, defect_line(alloc, mesh, defect), 7)
 }

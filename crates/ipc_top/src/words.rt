@@ -1,7 +1,7 @@
 //! The words of the command line.
 ghost use Rattle.std.specs.Prelude.{◌≡◌, map, option_map, string_bytes};
-ghost use Rattle.ipc_top.specs.Words.{asked};
-ghost use Rattle.ipc_top.specs.Orders.{command_of};
+ghost use Rattle.ipc_top.specs.Commands.{command_of};
+ghost use Rattle.ipc_top.specs.Calls.Jobs.{asked};
 
 /// A command: what it reads, and the name under which it writes frames.
 pub enum Command<'a> {

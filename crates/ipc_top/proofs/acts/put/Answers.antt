@@ -6,7 +6,7 @@ use Rattle.ipc_top.proofs.ActsDone.{lacks_memory, stops_first, wrote_front}
 use Rattle.ipc_top.proofs.acts.put.Goals as goal
 
 pub returns-in_err-line : goal.returns-in_err-line
-returns-in_err-line g c = lacks_memory _ _ _ c.from_residual.ensures.1
+returns-in_err-line g c = lacks_memory _ _ _ _ c.from_residual.ensures.1
 
 pub returns-in-Ok-say_all : goal.returns-in-Ok-say_all
 returns-in-Ok-say_all g c =
@@ -14,14 +14,18 @@ returns-in-Ok-say_all g c =
     let line : c.deref.result.now ≡ write_fault_line c.args.name.now = c.deref.ensures.value ∙ c.in_ok-line.ensures in
     stops_first _
     (record {
-      name = c.args.name.now;
-      text = c.args.text.now;
-      later = [];
-      next = refl;
-      files = h.part;
+      fault = record {
+        name = c.args.name.now;
+        text = c.args.text.now;
+        later = [];
+        next = refl;
+        files = h.part;
+        failed = h.failed;
+        rose = h.write_faults.failed;
+        read_faults = h.read_faults;
+      };
       written = c.in-Ok-say_all.ensures.whole ∙ ap (append_known _) line;
-      failed = h.failed;
-      rose = h.write_faults.failed;
+      faults = c.in-Ok-say_all.ensures.faults.ok;
     })
 
 pub returns : goal.returns
@@ -33,7 +37,7 @@ returns g c =
     (record {
       line = write_fault_line c.args.name.now;
       part = s.part.0;
-      which = Unwritten c.args.name.now c.args.text.now [] refl refl h.part;
+      which = Unwritten (record { name = c.args.name.now; text = c.args.text.now; later = []; next = refl; files = h.part; failed = h.failed; rose = h.write_faults.failed; read_faults = h.read_faults }) refl;
       written = wrote_front _ _ s.part.0 _ _ s.part.1 line;
       rose = s.faults.failed;
     })

@@ -1,7 +1,6 @@
 use Rattle.std.proofs.Common.{[], ◌∷◌}
 use Rattle.ipc_top.specs.Acts.{Put, Say}
-use Rattle.ipc_top.proofs.ActsDone.{stops_before}
-use Rattle.ipc_top.proofs.FramesDone.{does_stopped, does_then}
+use Rattle.ipc_top.proofs.ActsDone.{stops_before, does_stopped, does_then}
 use Rattle.ipc_top.proofs.frames.put_and_say.Goals as goal
 
 pub returns-in_err-put : goal.returns-in_err-put

@@ -1,0 +1,67 @@
+-- What holds of each plan that a command calls for.
+use Rattle.std.proofs.Common.{◌≡◌, ◌+◌, ℕ, refl, sym, subst, List, [], ◌∷◌, Option, Some, None}
+use Rattle.std.specs.FinMap.{get}
+use Rattle.surface_mesh.specs.declared.setup.Setup.{Setup}
+use Rattle.mesh_check.specs.Defects.{first_defect}
+use Rattle.frame_driver.specs.Frames.{Frame}
+use Rattle.surface_mesh.specs.Setup.{setup_of}
+use Rattle.space3.specs.declared.mesh.Mesh.{Mesh}
+use Rattle.scene_toml.specs.declared.scene.Scene.{Scene}
+use Rattle.ipc_top.specs.declared.mesh.TheConstants.{MESH_LIMIT}
+use Rattle.ipc_top.specs.declared.scene.TheConstants.{SCENE_LIMIT}
+use Rattle.ipc_top.specs.Acts.{Act, Take, Say}
+use Rattle.ipc_top.specs.CallsFor.{SceneMeans, JobCallsFor, CommandCallsFor}
+use Rattle.ipc_top.specs.Commands.{Command, Check, RunScene}
+use Rattle.ipc_top.specs.Files.{Outcome, Accepted, Refused, FileMeans, Continues, TakesFile}
+use Rattle.ipc_top.specs.Jobs.{Job, check_job, scene_job}
+use Rattle.ipc_top.specs.Lines.{mesh_refused_line, defect_line, scene_refused_line}
+use Rattle.ipc_top.specs.Meshes.{MeshMeans}
+use Rattle.ipc_top.specs.Moves.{Moves, AreFrames, first_start, motion_plan}
+use Rattle.ipc_top.specs.Plans.{Plan, plan_of, then_plan}
+use Rattle.ipc_top.specs.Roles as roles
+use Rattle.ipc_top.specs.Roles.{Seen}
+use Rattle.ipc_top.proofs.Outcomes.{file_refusal, mesh_refusal, scene_refusal, IsAccepted, accepted, file_accepted}
+use Rattle.ipc_top.proofs.Taking.{OnRefused}
+
+-- it holds of each refusal and of each motion, and stays where a file is taken first
+pub record OfEach (Q : Plan → Type 0) : Type 0 where
+  pub three : (acts : List Act) → Q (plan_of acts 3)
+  pub five : (acts : List Act) → Q (plan_of acts 5)
+  pub six : (acts : List Act) → Q (plan_of acts 6)
+  pub seven : (acts : List Act) → Q (plan_of acts 7)
+  pub ten : (acts : List Act) → Q (plan_of acts 10)
+  pub taken : (name : List ℕ) (plan : Plan) → Q plan → Q (then_plan (Take name ∷ []) plan)
+  pub moves : (job : Job) (mesh : Mesh) (frames : List Frame) → let setup = setup_of mesh job.numbers in first_defect setup ≡ None → AreFrames job setup (first_start job setup) frames → Q (motion_plan job (record { setup = setup; start = first_start job setup; frames = frames }))
+
+takes_each : {X : Type 0} (Q : Plan → Type 0) (name : List ℕ) (limit : ℕ) (Means : List ℕ → Outcome X → Type 0) (file : Option (List ℕ)) (Next : X → Plan → Type 0) (plan : Plan) → OfEach Q
+    → ((bytes : List ℕ) (o : Outcome X) → Means bytes o → OnRefused Q o)
+    → ((x : X) (o : Outcome X) → FileMeans name limit Means file o → o ≡ Accepted x → (rest : Plan) → Next x rest → Q rest)
+    → TakesFile name limit Means file Next plan → Q plan
+takes_each {X} Q name limit Means file Next plan each text next takes =
+    subst Q (sym takes.same) (each.taken name takes.rest (by takes.outcome refl takes.continues (file_refusal Q name limit Means file takes.outcome (each.three []) (each.ten _) (λ bytes m. text bytes takes.outcome m) takes.means)))
+  where
+    by : (o : Outcome X) → takes.outcome ≡ o → Continues o Next takes.rest → OnRefused Q o → Q takes.rest
+    by (Accepted x) is continues refused = next x takes.outcome takes.means is takes.rest continues
+    by (Refused refusal) is continues refused = subst Q (sym continues) refused
+
+job_each : (Q : Plan → Type 0) (job : Job) (seen : Seen) (plan : Plan) → OfEach Q → JobCallsFor job seen plan → Q plan
+job_each Q job seen plan each takes =
+    takes_each Q job.mesh MESH_LIMIT (MeshMeans job.numbers) (get (seen roles.Mesh) job.mesh) (λ setup. Moves job setup (first_start job setup)) plan each
+    (mesh_refusal Q (each.six _) (λ mesh defect. each.seven _) job.numbers) moved takes
+  where
+    moves_of : (setup : Setup) (rest : Plan) (mesh : Mesh) → setup ≡ setup_of mesh job.numbers → first_defect setup ≡ None → Moves job setup (first_start job setup) rest → Q rest
+    moves_of setup rest mesh built none moves =
+        let there : Moves job (setup_of mesh job.numbers) (first_start job (setup_of mesh job.numbers)) rest = subst (λ (s : Setup). Moves job s (first_start job s) rest) built moves in
+        subst Q (sym there.same) (each.moves job mesh there.frames (subst (λ (s : Setup). first_defect s ≡ None) built none) there.are)
+
+    moved : (setup : Setup) (o : Outcome Setup) → FileMeans job.mesh MESH_LIMIT (MeshMeans job.numbers) (get (seen roles.Mesh) job.mesh) o → o ≡ Accepted setup → (rest : Plan) → Moves job setup (first_start job setup) rest → Q rest
+    moved setup o means is rest moves =
+        let found = file_accepted job.mesh MESH_LIMIT job.numbers (get (seen roles.Mesh) job.mesh) o setup means is in
+        moves_of setup rest found.1.mesh found.1.built found.1.none moves
+
+pub each_plan : (Q : Plan → Type 0) (command : Command) (seen : Seen) (plan : Plan) → OfEach Q → CommandCallsFor (Some command) seen plan → Q plan
+each_plan Q (Check mesh out) seen plan each h = job_each Q (check_job mesh out) seen plan each h
+each_plan Q (RunScene name) seen plan each h =
+    takes_each Q name SCENE_LIMIT SceneMeans (get (seen roles.Scene) name) (λ scene. JobCallsFor (scene_job scene) seen) plan each
+    (scene_refusal Q (λ err. each.five _))
+    (λ scene o means is rest called. job_each Q (scene_job scene) seen rest each called) h

@@ -1,0 +1,30 @@
+-- Files that are taken, and what comes of them.
+use Rattle.std.specs.Prelude.{◌≡◌, ◌<◌, ◌≤◌, ◌+◌, ℕ, List, [], ◌∷◌, length, Option, Some, None}
+use Rattle.ipc_top.specs.Acts.{Take, Say}
+use Rattle.ipc_top.specs.Lines.{too_long_line}
+use Rattle.ipc_top.specs.Plans.{Plan, plan_of, then_plan}
+
+-- what comes of a file: what it gives, or the plan of its refusal
+pub data Outcome (X : Type 0) : Type 0 where
+  Accepted : (x : X) → Outcome X
+  Refused : (plan : Plan) → Outcome X
+
+-- This comes of a file, where `Means` says what comes of its bytes. Nothing follows where it isn't there, since then
+-- it can't be taken; where it is longer than its limit, one line does.
+pub data FileMeans {X : Type 0} (name : List ℕ) (limit : ℕ) (Means : List ℕ → Outcome X → Type 0) (file : Option (List ℕ)) (outcome : Outcome X) : Type 0 where
+  Missing : file ≡ None → outcome ≡ Refused (plan_of [] 3) → FileMeans name limit Means file outcome
+  TooLong : (bytes : List ℕ) → file ≡ Some bytes → limit < length bytes → outcome ≡ Refused (plan_of (Say (too_long_line name (limit + 1)) ∷ []) 10) → FileMeans name limit Means file outcome
+  Whole : (bytes : List ℕ) → file ≡ Some bytes → length bytes ≤ limit → Means bytes outcome → FileMeans name limit Means file outcome
+
+-- what follows an outcome: the refusal's plan, or one that `Next` calls for
+abbrev pub Continues : {X : Type 0} → Outcome X → (X → Plan → Type 0) → Plan → Type 0
+Continues (Accepted x) Next plan = Next x plan
+Continues (Refused refusal) Next plan = plan ≡ refusal
+
+-- a plan that takes a file, and then does what follows
+pub record TakesFile {X : Type 0} (name : List ℕ) (limit : ℕ) (Means : List ℕ → Outcome X → Type 0) (file : Option (List ℕ)) (Next : X → Plan → Type 0) (plan : Plan) : Type 0 where
+  pub outcome : Outcome X
+  pub means : FileMeans name limit Means file outcome
+  pub rest : Plan
+  pub continues : Continues outcome Next rest
+  pub same : plan ≡ then_plan (Take name ∷ []) rest

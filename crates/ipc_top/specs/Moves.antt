@@ -1,0 +1,79 @@
+-- The acts that show how bodies move.
+use Rattle.std.specs.Prelude.{◌≡◌, ◌++◌, ◌+◌, ◌-◌, ℕ, Bool, true, false, List, [], ◌∷◌, codes, decimal, length, replicate, if◌then◌else◌, Some}
+use Rattle.std.specs.List.{list_all}
+use Rattle.space3.specs.declared.vectors.V3.{V3}
+use Rattle.surface_mesh.specs.declared.setup.Setup.{Setup}
+use Rattle.frame_driver.specs.declared.end.FrameEnd.{FrameEnd}
+use Rattle.frame_driver.specs.declared.end.FrameEnd.TheVariants as ends
+use Rattle.frame_driver.specs.Frames.{Frame, last_after}
+use Rattle.frame_driver.specs.Paths.{FramesFrom, first_before}
+use Rattle.msh_text.specs.Frame.{frame_text}
+use Rattle.ipc_top.specs.Acts.{Act, Put, Say}
+use Rattle.ipc_top.specs.Jobs.{Job}
+use Rattle.ipc_top.specs.Lines.{accepted_line, start_line, frame_line}
+use Rattle.ipc_top.specs.Motions.{Start, Motion}
+use Rattle.ipc_top.specs.Plans.{Plan}
+
+-- a number of at most four digits, with zeros before it
+abbrev pub four_digits : ℕ → List ℕ
+four_digits n = replicate (4 - length (decimal n)) 48 ++ decimal n
+
+-- the file of a frame
+abbrev pub frame_name : (out : List ℕ) → ℕ → List ℕ
+frame_name out frame = out ++ codes "_" ++ four_digits frame ++ codes ".msh"
+
+-- the start at the mesh's places: frame 0 is written, and said
+abbrev pub first_start : Job → Setup → Start
+first_start job setup = record {
+  number = 0;
+  places = setup.mesh.places;
+  before = first_before setup;
+  shown = Put (frame_name job.out 0) (frame_text setup.mesh setup.mesh.places) ∷ Say start_line ∷ [];
+}
+
+-- the acts of the frame of this number, which begins at the places `now`
+abbrev pub acts_of_frame : Job → Setup → ℕ → (now : List V3) → Frame → List Act
+acts_of_frame job setup number now frame =
+    Put (frame_name job.out number) (frame_text setup.mesh (last_after now frame.steps))
+    ∷ Say (frame_line number frame.end)
+    ∷ []
+
+-- the acts of frames in order, where the first has this number and begins at the places `now`
+abbrev pub acts_of_frames : Job → Setup → ℕ → (now : List V3) → List Frame → List Act
+acts_of_frames job setup number now [] = []
+acts_of_frames job setup number now (frame ∷ frames) =
+    acts_of_frame job setup number now frame
+    ++ acts_of_frames job setup (number + 1) (last_after now frame.steps) frames
+
+abbrev pub is_converged : FrameEnd → Bool
+is_converged (ends.Converged steps) = true
+is_converged end = false
+
+-- 0 where all frames converged, else 1
+abbrev pub frames_status : List Frame → ℕ
+frames_status frames = if list_all (λ frame. is_converged frame.end) frames then 0 else 1
+
+-- a mesh is accepted, the start is shown, and then each frame that follows
+abbrev pub motion_plan : Job → Motion → Plan
+motion_plan job motion =
+    let mesh = motion.setup.mesh in
+    let start = motion.start in
+    record {
+      acts =
+      Say (accepted_line (length mesh.numbers) (length mesh.tets))
+      ∷ start.shown
+      ++ acts_of_frames job motion.setup (start.number + 1) start.places motion.frames;
+      status = frames_status motion.frames;
+      motion = Some motion;
+    }
+
+-- these are the frames of a job from a start: its path, of as many frames as it asks for
+pub record AreFrames (job : Job) (setup : Setup) (start : Start) (frames : List Frame) : Type 0 where
+  pub count : length frames ≡ job.frames
+  pub path : FramesFrom setup job.tol job.budget start.places start.before frames
+
+-- the plan shows how the bodies of a job move from a start
+pub record Moves (job : Job) (setup : Setup) (start : Start) (plan : Plan) : Type 0 where
+  pub frames : List Frame
+  pub are : AreFrames job setup start frames
+  pub same : plan ≡ motion_plan job (record { setup = setup; start = start; frames = frames })

@@ -1,0 +1,18 @@
+-- Plans: what is to be done, and how it is to end.
+use Rattle.std.specs.Prelude.{ℕ, List, ◌++◌, Option, None}
+use Rattle.ipc_top.specs.Acts.{Act}
+use Rattle.ipc_top.specs.Motions.{Motion}
+
+-- a list of acts, the status that is owed when all are done, and the motion that the acts show, if they show one
+pub record Plan : Type 0 where
+  pub acts : List Act
+  pub status : ℕ
+  pub motion : Option Motion
+
+-- a plan that shows no motion
+abbrev pub plan_of : List Act → ℕ → Plan
+plan_of acts status = record { acts = acts; status = status; motion = None }
+
+-- these acts, and then that plan
+abbrev pub then_plan : List Act → Plan → Plan
+then_plan acts plan = record { acts = acts ++ plan.acts; status = plan.status; motion = plan.motion }

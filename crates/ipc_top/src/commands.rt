@@ -1,0 +1,87 @@
+//! What each command does.
+ghost use Rattle.std.specs.Prelude.{◌≡◌, ◌⊎◌, ◌+◌, Some};
+ghost use Rattle.surface_mesh.specs.Materials.{AreNumbers};
+ghost use Rattle.ipc_top.specs.Acts.{world};
+ghost use Rattle.ipc_top.specs.CallsFor.{CommandCallsFor};
+ghost use Rattle.ipc_top.specs.Commands as commands;
+ghost use Rattle.ipc_top.specs.Jobs as jobs;
+ghost use Rattle.ipc_top.specs.Calls.Plans.{Obeys, status_of};
+
+use crate::job::{Job, do_job};
+use crate::mesh::MESH_LIMIT;
+use crate::refusals::End;
+use crate::scene::{SCENE_LIMIT, take_scene};
+use shelf_io::{Shelf, Sink};
+use space3::V3;
+use std::alloc::Global;
+use surface_mesh::{Material, Numbers, PartList};
+
+/// Checks the mesh of a file: says its size and writes its frame 0 under the name `out`, or says why it is refused.
+pub fn check<S: Shelf, C: Sink>(
+    alloc: Global,
+    shelf: &mut S,
+    console: &mut C,
+    mesh: &str,
+    out: &str,
+) -> Result<u8, End>
+    ensures obeys { Obeys (CommandCallsFor (Some (commands.Check mesh.now out.now))) result
+        (world (S.state shelf.old) (C.state console.old))
+        (world (S.state shelf.new) (C.state console.new)) }
+    ensures too_long { status_of result ≡ 10 → (S.state shelf.new).taken ≡ MESH_LIMIT + 1 }
+{
+    let job = Job {
+        mesh,
+        out,
+        tol: 0,
+        budget: 1,
+        frames: 0,
+    };
+    do_job(alloc, shelf, console, &job, check_numbers(alloc))
+}
+
+const ORIGIN: V3 = V3 { x: 0, y: 0, z: 0 };
+
+// The numbers with which a mesh is checked.
+fn check_numbers(alloc: Global) -> Numbers
+    ensures same { result ≡ jobs.check_numbers }
+    ensures in_range { AreNumbers result }
+{
+    Numbers {
+        base: Material {
+            density: 1,
+            mu: 0,
+            lambda: 0,
+            fixed: false,
+            velocity: ORIGIN,
+        },
+        parts: PartList::of_vec(Vec::new(alloc)),
+        kappa: 1,
+        dhat: 2,
+        gravity: ORIGIN,
+    }
+}
+
+/// Runs the scene of a file: takes it and does its job, or says why it is refused.
+pub fn run<S: Shelf, C: Sink>(
+    alloc: Global,
+    shelf: &mut S,
+    console: &mut C,
+    name: &str,
+) -> Result<u8, End>
+    ensures obeys { Obeys (CommandCallsFor (Some (commands.RunScene name.now))) result
+        (world (S.state shelf.old) (C.state console.old))
+        (world (S.state shelf.new) (C.state console.new)) }
+    ensures too_long { status_of result ≡ 10
+        → ((S.state shelf.new).taken ≡ SCENE_LIMIT + 1) ⊎ ((S.state shelf.new).taken ≡ MESH_LIMIT + 1) }
+{
+    let scene = take_scene(alloc, shelf, console, name)?;
+    let numbers = scene.numbers;
+    let job = Job {
+        mesh: scene.mesh.text(),
+        out: scene.out.text(),
+        tol: scene.tol,
+        budget: scene.budget,
+        frames: scene.frames,
+    };
+    do_job(alloc, shelf, console, &job, numbers)
+}

@@ -1,0 +1,210 @@
+//! Worked cases: words, a mesh and a scene, and how the command ends.
+
+use crate::desk::{
+    ACCEPTED, CHECK, Desk, FALL, HEAD, LINES, MATERIAL, NAMES, NODES, NODES_1, NODES_2, NODES_3,
+    RUN, TAIL,
+};
+use std::alloc::Global;
+use std::test::Fail;
+
+// What a command does with a mesh and a scene, and one file that it leaves, or doesn't make. Texts are in pieces.
+#[derive(Clone, Copy)]
+struct Case<'a> {
+    words: &'a [&'a str],
+    mesh: &'a [&'a str],
+    scene: &'a [&'a str],
+    status: u8,
+    console: &'a [&'a str],
+    name: &'a str,
+    left: Option<&'a [&'a str]>,
+}
+
+// Whether the command ends as the case says.
+fn holds(alloc: Global, case: Case<'_>) -> Result<bool, Fail> {
+    let mut desk = Desk::new(alloc, case.mesh, case.scene)?;
+    desk.obey(case.words)?;
+    Ok(desk.says(case.status, case.console)? && desk.has(case.name, case.left)?)
+}
+
+#[test]
+fn meshes_that_are_accepted(rt: HostRuntime) -> Result<(), Fail> {
+    let loose = "$MeshFormat\n2.2 0 8\n$EndMeshFormat\n$Nodes\n4\n1  +0\t00 0\n\n";
+    let rest = "2 100 0 0\n3 0 100 0\n4 0 0 100\n";
+    let written = [HEAD, NODES, TAIL];
+    for mesh in [[HEAD, NODES, TAIL], [loose, rest, TAIL]] {
+        let case = Case {
+            words: &CHECK,
+            mesh: &mesh,
+            scene: &[],
+            status: 0,
+            console: &[ACCEPTED],
+            name: "o_0000.msh",
+            left: Some(&written),
+        };
+        assert!(rt; holds(rt.alloc(), case)?);
+    }
+    Ok(())
+}
+
+#[test]
+fn words_of_no_command(rt: HostRuntime) -> Result<(), Fail> {
+    let lists: [&[&str]; 6] = [
+        &[],
+        &["check", "0", "t.msh"],
+        &["check", "1", "t.msh", "o"],
+        &["check", "0", "t.msh", "o", "o"],
+        &["run"],
+        &["runs", "f.toml"],
+    ];
+    for words in lists {
+        let case = Case {
+            words,
+            mesh: &[HEAD, NODES, TAIL],
+            scene: &[],
+            status: 2,
+            console: &["usage: ipc check DIGITS MESH OUT | run SCENE\n"],
+            name: "o_0000.msh",
+            left: None,
+        };
+        assert!(rt; holds(rt.alloc(), case)?);
+    }
+    Ok(())
+}
+
+#[test]
+fn meshes_that_are_refused(rt: HostRuntime) -> Result<(), Fail> {
+    let tail = "$EndNodes\n$Elements\n1\n7 4 2 0 1 1 2 3 4\n$EndElements\n";
+    let table = [
+        ("2 100 0 0\n", "4 0 0 -100\n", 7, "geometry refused: not positive 7\n"),
+        ("2 100 0 0\n", "4 50 50 0\n", 7, "geometry refused: not positive 7\n"),
+        ("2 100 0 0\n", "4 0 0 26\n", 7, "geometry refused: thin 7\n"),
+        ("2 16385 0 0\n", "4 0 0 100\n", 7, "geometry refused: long 7\n"),
+        ("2 16384 0\n", "4 0 0 100\n", 6, "mesh refused: first form\n"),
+    ];
+    for (second, fourth, status, line) in table {
+        for (words, name) in [(CHECK.as_slice(), "o_0000.msh"), (RUN.as_slice(), "fall_0000.msh")] {
+            let case = Case {
+                words,
+                mesh: &[HEAD, "1 0 0 0\n", second, "3 0 100 0\n", fourth, tail],
+                scene: &[NAMES, FALL, MATERIAL],
+                status,
+                console: &[line],
+                name,
+                left: None,
+            };
+            assert!(rt; holds(rt.alloc(), case)?);
+        }
+    }
+    Ok(())
+}
+
+#[test]
+fn scenes_that_are_refused(rt: HostRuntime) -> Result<(), Fail> {
+    let rest = "frames = 3\nbudget = 10\ndhat = 2\n";
+    let stiff = "[material]\ndensity = 1\nlambda = 0\nmu = 1\n";
+    let table = [
+        ("kappa = 0\n", MATERIAL, "missing key tol\n"),
+        ("kappa = 0\ntol = 0\n", MATERIAL, "out of range kappa 0\n"),
+        ("kappa = 0\ntol = 0\nkapa = 1\n", MATERIAL, "unknown key kapa\n"),
+        ("kappa = 1\ntol = 0\n", stiff, "out of range material.mu 1\n"),
+        ("kappa = 1\ntol = 0\ntol = 0\n", MATERIAL, "not toml\n"),
+        ("kappa = 1\ntol = true\n", MATERIAL, "wrong type tol\n"),
+    ];
+    for (top, material, fault) in table {
+        let case = Case {
+            words: &RUN,
+            mesh: &[HEAD, NODES, TAIL],
+            scene: &[NAMES, rest, top, material],
+            status: 5,
+            console: &["scene refused: ", fault],
+            name: "fall_0000.msh",
+            left: None,
+        };
+        assert!(rt; holds(rt.alloc(), case)?);
+    }
+    Ok(())
+}
+
+#[test]
+fn three_frames_of_fall(rt: HostRuntime) -> Result<(), Fail> {
+    let table = [
+        ("fall_0000.msh", NODES),
+        ("fall_0001.msh", NODES_1),
+        ("fall_0002.msh", NODES_2),
+        ("fall_0003.msh", NODES_3),
+    ];
+    for (name, nodes) in table {
+        let case = Case {
+            words: &RUN,
+            mesh: &[HEAD, NODES, TAIL],
+            scene: &[NAMES, FALL, MATERIAL],
+            status: 0,
+            console: &LINES,
+            name,
+            left: Some(&[HEAD, nodes, TAIL]),
+        };
+        assert!(rt; holds(rt.alloc(), case)?);
+    }
+    Ok(())
+}
+
+// In the second case the first two halvings would leave the box.
+#[test]
+fn frames_that_do_not_converge(rt: HostRuntime) -> Result<(), Fail> {
+    let low = "1 0 0 -1048573\n2 100 0 -1048573\n3 0 100 -1048573\n4 0 0 -1048473\n";
+    let lower = "1 0 0 -1048575\n2 100 0 -1048575\n3 0 100 -1048575\n4 0 0 -1048475\n";
+    let moved = "1 0 0 -1\n2 100 0 -1\n3 0 100 -1\n4 0 0 99\n";
+    let table = [
+        (NODES, "budget = 10\ngravity = [0, 0, -300]\n", "frame 1 stalled 1\n", moved),
+        (low, "budget = 1\ngravity = [0, 0, -2048]\n", "frame 1 budget 1\n", lower),
+    ];
+    for (nodes, keys, line, after) in table {
+        let rest = "frames = 1\ntol = 0\ndhat = 2\nkappa = 1\n";
+        let case = Case {
+            words: &RUN,
+            mesh: &[HEAD, nodes, TAIL],
+            scene: &[NAMES, rest, keys, MATERIAL],
+            status: 1,
+            console: &[ACCEPTED, line],
+            name: "fall_0001.msh",
+            left: Some(&[HEAD, after, TAIL]),
+        };
+        assert!(rt; holds(rt.alloc(), case)?);
+    }
+    Ok(())
+}
+
+// A file is read as it was before the command, also where a frame takes its place; other files stay.
+#[test]
+fn files_that_are_replaced_and_files_that_stay(rt: HostRuntime) -> Result<(), Fail> {
+    let names = "mesh = \"t_0001.msh\"\nout = \"t\"\ndigits = 0\n";
+    let whole = "$MeshFormat\n2.2 0 8\n$EndMeshFormat\n$Nodes\n4\n1 0 0 0\n2 100 0 0\n3 0 100 0\n4 0 0 100\n$EndNodes\n$Elements\n1\n1 4 2 0 1 1 2 3 4\n$EndElements\n";
+    let mut desk = Desk::new(rt.alloc(), &["old"], &[names, FALL, MATERIAL])?;
+    desk.shelf.put("t_0001.msh", whole.as_bytes())?;
+    desk.shelf.put("t_0002.msh", b"old")?;
+    desk.obey(&RUN)?;
+    assert!(rt; desk.says(0, &LINES)?);
+    assert!(rt; desk.has("t_0000.msh", Some(&[HEAD, NODES, TAIL]))?);
+    assert!(rt; desk.has("t_0001.msh", Some(&[HEAD, NODES_1, TAIL]))?);
+    assert!(rt; desk.has("t_0002.msh", Some(&[HEAD, NODES_2, TAIL]))?);
+    assert!(rt; desk.has("t_0004.msh", None)?);
+    assert!(rt; desk.has("t.msh", Some(&["old"]))?);
+    assert!(rt; desk.has("f.toml", Some(&[names, FALL, MATERIAL]))?);
+    Ok(())
+}
+
+#[test]
+fn files_that_are_not_there(rt: HostRuntime) -> Result<(), Fail> {
+    let other = "mesh = \"u.msh\"\nout = \"fall\"\ndigits = 0\n";
+    let table = [
+        (["run", "g\n\u{e9}.toml"], "read fault g???.toml\n", "g\n\u{e9}.toml"),
+        (["run", "f.toml"], "read fault u.msh\n", "u.msh"),
+    ];
+    for (words, line, name) in table {
+        let mut desk = Desk::new(rt.alloc(), &[], &[other, FALL, MATERIAL])?;
+        desk.obey(&words)?;
+        assert!(rt; desk.says(3, &[line])?);
+        assert!(rt; desk.shelf.failed_name() == Some(name));
+    }
+    Ok(())
+}
