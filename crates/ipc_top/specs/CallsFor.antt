@@ -18,10 +18,14 @@ use Rattle.ipc_top.specs.Plans.{Plan, plan_of}
 use Rattle.ipc_top.specs.Roles as roles
 use Rattle.ipc_top.specs.Roles.{Seen}
 
+-- a scene is refused
+abbrev pub scene_refused_plan : SceneErr → Plan
+scene_refused_plan err = plan_of (Say (scene_refused_line err) ∷ []) 5
+
 -- what comes of a scene as it was read
 abbrev pub scene_outcome : Result Scene SceneErr → Outcome Scene
 scene_outcome (Ok scene) = Accepted scene
-scene_outcome (Err err) = Refused (plan_of (Say (scene_refused_line err) ∷ []) 5)
+scene_outcome (Err err) = Refused (scene_refused_plan err)
 
 -- what comes of a scene's text
 abbrev pub SceneMeans : List ℕ → Outcome Scene → Type 0
@@ -33,7 +37,8 @@ TakesScene name seen Next = TakesFile name SCENE_LIMIT SceneMeans (get (seen rol
 
 -- to take the mesh of a job, and then
 abbrev pub TakesMesh : Job → Seen → (Setup → Plan → Type 0) → Plan → Type 0
-TakesMesh job seen Next = TakesFile job.mesh MESH_LIMIT (MeshMeans job.numbers) (get (seen roles.Mesh) job.mesh) Next
+TakesMesh job seen Next =
+    TakesFile job.mesh MESH_LIMIT (MeshMeans job.numbers) (get (seen roles.Mesh) job.mesh) Next
 
 -- to take the mesh of a job, and then to move its bodies from the mesh's places
 abbrev pub JobCallsFor : Job → Seen → Plan → Type 0
@@ -47,7 +52,8 @@ usage_plan = plan_of (Say usage_line ∷ []) 2
 abbrev pub CommandCallsFor : Option Command → Seen → Plan → Type 0
 CommandCallsFor None seen plan = plan ≡ usage_plan
 CommandCallsFor (Some (Check mesh out)) seen plan = JobCallsFor (check_job mesh out) seen plan
-CommandCallsFor (Some (RunScene name)) seen plan = TakesScene name seen (λ scene. JobCallsFor (scene_job scene) seen) plan
+CommandCallsFor (Some (RunScene name)) seen plan =
+    TakesScene name seen (λ scene. JobCallsFor (scene_job scene) seen) plan
 
 -- what the words call for, where these files are seen
 pub record CallsFor (words : List (List ℕ)) (seen : Seen) (plan : Plan) : Type 0 where

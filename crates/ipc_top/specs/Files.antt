@@ -9,12 +9,21 @@ pub data Outcome (X : Type 0) : Type 0 where
   Accepted : (x : X) → Outcome X
   Refused : (plan : Plan) → Outcome X
 
--- This comes of a file, where `Means` says what comes of its bytes. Nothing follows where it isn't there, since then
--- it can't be taken; where it is longer than its limit, one line does.
+-- a file that isn't there can't be taken, and nothing follows
+abbrev pub missing_plan : Plan
+missing_plan = plan_of [] 3
+
+-- a file that is longer than its limit is told by a line
+abbrev pub too_long_plan : (name : List ℕ) (limit : ℕ) → Plan
+too_long_plan name limit = plan_of (Say (too_long_line name (limit + 1)) ∷ []) 10
+
+-- this comes of a file: it isn't there, it is longer than its limit, or what its bytes mean
 pub data FileMeans {X : Type 0} (name : List ℕ) (limit : ℕ) (Means : List ℕ → Outcome X → Type 0) (file : Option (List ℕ)) (outcome : Outcome X) : Type 0 where
-  Missing : file ≡ None → outcome ≡ Refused (plan_of [] 3) → FileMeans name limit Means file outcome
-  TooLong : (bytes : List ℕ) → file ≡ Some bytes → limit < length bytes → outcome ≡ Refused (plan_of (Say (too_long_line name (limit + 1)) ∷ []) 10) → FileMeans name limit Means file outcome
-  Whole : (bytes : List ℕ) → file ≡ Some bytes → length bytes ≤ limit → Means bytes outcome → FileMeans name limit Means file outcome
+  Missing : file ≡ None → outcome ≡ Refused missing_plan → FileMeans name limit Means file outcome
+  TooLong : (bytes : List ℕ) → file ≡ Some bytes → limit < length bytes
+    → outcome ≡ Refused (too_long_plan name limit) → FileMeans name limit Means file outcome
+  Whole : (bytes : List ℕ) → file ≡ Some bytes → length bytes ≤ limit
+    → Means bytes outcome → FileMeans name limit Means file outcome
 
 -- what follows an outcome: the refusal's plan, or one that `Next` calls for
 abbrev pub Continues : {X : Type 0} → Outcome X → (X → Plan → Type 0) → Plan → Type 0

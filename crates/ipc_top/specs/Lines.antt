@@ -1,5 +1,5 @@
 -- The lines of the console. A text is a list of bytes.
-use Rattle.std.specs.Prelude.{◌++◌, ◌||◌, ℕ, List, map, codes, decimal, nat_lt, slice_get, slice_index, if◌then◌else◌}
+use Rattle.std.specs.Prelude.{◌++◌, ◌||◌, ℕ, ℤ, List, map, codes, decimal, nat_lt, slice_get, slice_index, if◌then◌else◌}
 use Rattle.std.specs.Option.{option_map_or}
 use Rattle.std.specs.Fmt.{signed_decimal}
 use Rattle.space3.specs.declared.mesh.Mesh.{Mesh}
@@ -42,14 +42,18 @@ write_fault_line name = codes "write fault " ++ printed name ++ codes "\n"
 abbrev pub too_long_line : (name : List ℕ) (taken : ℕ) → List ℕ
 too_long_line name taken = codes "too long " ++ printed name ++ codes " " ++ decimal taken ++ codes "\n"
 
+-- a value of a scene is out of range
+abbrev pub out_of_range_line : (key : List ℕ) (value : ℤ) → List ℕ
+out_of_range_line key value =
+    codes "scene refused: out of range " ++ printed key ++ codes " " ++ signed_decimal value ++ codes "\n"
+
 -- a scene is refused
 abbrev pub scene_refused_line : SceneErr → List ℕ
 scene_refused_line scenes.NotToml = codes "scene refused: not toml\n"
 scene_refused_line (scenes.UnknownKey key) = codes "scene refused: unknown key " ++ printed key ++ codes "\n"
 scene_refused_line (scenes.Missing key) = codes "scene refused: missing key " ++ printed key ++ codes "\n"
 scene_refused_line (scenes.WrongType key) = codes "scene refused: wrong type " ++ printed key ++ codes "\n"
-scene_refused_line (scenes.OutOfRange key value) =
-    codes "scene refused: out of range " ++ printed key ++ codes " " ++ signed_decimal value ++ codes "\n"
+scene_refused_line (scenes.OutOfRange key value) = out_of_range_line key value
 
 -- the number in the file of a tetrahedron, by its position
 abbrev pub tet_number : Mesh → ℕ → ℕ

@@ -7,7 +7,8 @@ use Rattle.frame_driver.specs.Frames.{Frame}
 use Rattle.frame_driver.specs.Paths.{StayUprightFrom}
 use Rattle.ipc_top.specs.Acts.{Act}
 
--- where bodies start: the number of the frame that stands there, its places, the places before, and the acts that show it
+-- where bodies start: the number of the frame that stands there, its places, the places before it, and the acts that
+-- show it
 pub record Start : Type 0 where
   pub number : ℕ
   pub places : List V3

@@ -60,9 +60,9 @@ motion_plan job motion =
     let start = motion.start in
     record {
       acts =
-      Say (accepted_line (length mesh.numbers) (length mesh.tets))
-      ∷ start.shown
-      ++ acts_of_frames job motion.setup (start.number + 1) start.places motion.frames;
+          Say (accepted_line (length mesh.numbers) (length mesh.tets))
+          ∷ start.shown
+          ++ acts_of_frames job motion.setup (start.number + 1) start.places motion.frames;
       status = frames_status motion.frames;
       motion = Some motion;
     }

@@ -71,8 +71,8 @@ pub fn run<S: Shelf, C: Sink>(
     ensures obeys { Obeys (CommandCallsFor (Some (commands.RunScene name.now))) result
         (world (S.state shelf.old) (C.state console.old))
         (world (S.state shelf.new) (C.state console.new)) }
-    ensures too_long { status_of result ≡ 10
-        → ((S.state shelf.new).taken ≡ SCENE_LIMIT + 1) ⊎ ((S.state shelf.new).taken ≡ MESH_LIMIT + 1) }
+    ensures too_long { status_of result ≡ 10 → ((S.state shelf.new).taken ≡ SCENE_LIMIT + 1)
+        ⊎ ((S.state shelf.new).taken ≡ MESH_LIMIT + 1) }
 {
     let scene = take_scene(alloc, shelf, console, name)?;
     let numbers = scene.numbers;

@@ -25,7 +25,8 @@ pub fn show_frames<S: Shelf, C: Sink>(
     sim: &mut Sim,
 ) -> Result<bool, Stop>
     ensures { (frames : List Frame) → AreNext sim.old job.now.frames frames
-        → ShowsFrames (job_of job.now sim.old.setup.numbers) sim.old.setup sim.old.places frames result
+        → ShowsFrames (job_of job.now sim.old.setup.numbers) sim.old.setup sim.old.places
+            frames result
         (world (S.state shelf.old) (C.state console.old))
         (world (S.state shelf.new) (C.state console.new)) }
 {

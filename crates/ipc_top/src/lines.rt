@@ -157,7 +157,7 @@ pub fn defect_line(alloc: Global, mesh: &Mesh, defect: Defect) -> Result<Vec<u8>
 
 // The line of a value that is out of range.
 fn range_line(alloc: Global, key: &str, value: i64) -> Result<Vec<u8>, AllocError>
-    ensures { IfOk result (λ line. line.items ≡ codes "scene refused: out of range " ++ lines.printed key.now ++ codes " " ++ signed_decimal value ++ codes "\n") }
+    ensures { IfOk result (λ line. line.items ≡ lines.out_of_range_line key.now value) }
 {
     let mut line = Vec::from_slice(alloc, b"scene refused: out of range ")?;
     add_name(&mut line, key)?;

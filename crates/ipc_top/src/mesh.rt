@@ -38,11 +38,11 @@ pub fn take_mesh<S: Shelf, C: Sink>(
     ensures sturdy { IfOk result AreSturdy }
 {
     let bytes = take_file(alloc, shelf, console, name, MESH_LIMIT)?;
-    read_mesh(alloc, console, &bytes, numbers)
+    bodies_of_bytes(alloc, console, &bytes, numbers)
 }
 
 // Reads the bytes of a mesh file.
-fn read_mesh<C: Sink>(
+fn bodies_of_bytes<C: Sink>(
     alloc: Global,
     console: &mut C,
     bytes: &[u8],
@@ -54,14 +54,14 @@ fn read_mesh<C: Sink>(
     ensures sturdy { IfOk result AreSturdy }
 {
     match read_msh(alloc, bytes) {
-        Ok(mesh) => set_up(alloc, console, mesh, numbers),
+        Ok(mesh) => bodies_of_mesh(alloc, console, mesh, numbers),
         Err(ReadMshErr::Memory) => Err(End::Stopped(Stop::Memory)),
         Err(ReadMshErr::Text(_)) => Err(refuse_mesh(console)),
     }
 }
 
 // Makes the bodies of a mesh, and looks for a defect.
-fn set_up<C: Sink>(
+fn bodies_of_mesh<C: Sink>(
     alloc: Global,
     console: &mut C,
     mesh: Mesh,

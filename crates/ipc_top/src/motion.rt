@@ -60,7 +60,7 @@ fn show_start<S: Shelf, C: Sink>(
     requires { IsSetup setup.now }
     ensures { let mesh = setup.now.mesh in
         Does (Say (accepted_line (length mesh.numbers) (length mesh.tets))
-            ∷ (first_start (job_of job.now setup.now.numbers) setup.now).shown) result
+        ∷ (first_start (job_of job.now setup.now.numbers) setup.now).shown) result
         (world (S.state shelf.old) (C.state console.old))
         (world (S.state shelf.new) (C.state console.new)) }
 {

@@ -49,11 +49,7 @@ fn refuse_with<C: Sink>(console: &mut C, line: &[u8], status: u8) -> End
 }
 
 // The same, where memory for the line may have been wanting.
-fn refuse_if_made<C: Sink>(
-    console: &mut C,
-    made: Result<Vec<u8>, AllocError>,
-    status: u8,
-) -> End
+fn refuse_if_made<C: Sink>(console: &mut C, made: Result<Vec<u8>, AllocError>, status: u8) -> End
     requires { IsPlain status }
     ensures { (s : ShelfState) (line : List ℕ) → IfOk made (λ v. v.items ≡ line)
         → Follows (plan_of (Say line ∷ []) status) (Err result)
@@ -101,12 +97,7 @@ pub fn refuse_mesh<C: Sink>(console: &mut C) -> End
 }
 
 /// Refuses a mesh for a defect.
-pub fn refuse_defect<C: Sink>(
-    alloc: Global,
-    console: &mut C,
-    mesh: &Mesh,
-    defect: Defect,
-) -> End
+pub fn refuse_defect<C: Sink>(alloc: Global, console: &mut C, mesh: &Mesh, defect: Defect) -> End
     ensures { (s : ShelfState) →
         Follows (plan_of (Say (specs.defect_line mesh.now defect) ∷ []) 7) (Err result)
         (world s (C.state console.old)) (world s (C.state console.new)) }

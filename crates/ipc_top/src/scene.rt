@@ -30,11 +30,11 @@ pub fn take_scene<S: Shelf, C: Sink>(
     ensures in_range { IfOk result IsScene }
 {
     let bytes = take_file(alloc, shelf, console, name, SCENE_LIMIT)?;
-    look_through(alloc, console, &bytes)
+    scene_of_bytes(alloc, console, &bytes)
 }
 
 // Reads the bytes of a scene file.
-fn look_through<C: Sink>(alloc: Global, console: &mut C, bytes: &[u8]) -> Result<Scene, End>
+fn scene_of_bytes<C: Sink>(alloc: Global, console: &mut C, bytes: &[u8]) -> Result<Scene, End>
     ensures looks { (s : ShelfState) → LooksThrough (SceneMeans bytes.now) result
         (world s (C.state console.old)) (world s (C.state console.new)) }
     ensures in_range { IfOk result IsScene }

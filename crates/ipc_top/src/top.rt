@@ -45,7 +45,8 @@ pub fn ipc_run<S: Shelf, C: Sink>(
 ) -> u8
     // Where the files are told, or the words call for none: what they call for was done, or was stopped, and bodies
     // stay upright throughout the motion that was shown.
-    ensures told { (files : Files) → IsInput (map string_bytes words.now) (S.state shelf.old).files files
+    ensures told { (files : Files)
+        → IsInput (map string_bytes words.now) (S.state shelf.old).files files
         → Ends (map string_bytes words.now) (everywhere files) result
         (world (S.state shelf.old) (C.state console.old))
         (world (S.state shelf.new) (C.state console.new)) }
@@ -57,11 +58,15 @@ pub fn ipc_run<S: Shelf, C: Sink>(
     ensures answers { IsStatus result }
     // 2 comes exactly where the words are no command, unless memory was wanting or the console failed.
     ensures usage { result ≡ 2 → command_of (map string_bytes words.now) ≡ None }
-    ensures no_command { command_of (map string_bytes words.now) ≡ None → IsOneOf (2 ∷ 8 ∷ 9 ∷ []) result }
+    ensures no_command { command_of (map string_bytes words.now) ≡ None
+        → IsOneOf (2 ∷ 8 ∷ 9 ∷ []) result }
     // The causes of the statuses that stop a command: a device failed in this call.
-    ensures read { result ≡ 3 → Rose (S.state shelf.old).read_faults (S.state shelf.new).read_faults }
-    ensures write { result ≡ 4 → Rose (S.state shelf.old).write_faults (S.state shelf.new).write_faults }
-    ensures console { result ≡ 9 → Rose (C.state console.old).faults (C.state console.new).faults }
+    ensures read { result ≡ 3
+        → Rose (S.state shelf.old).read_faults (S.state shelf.new).read_faults }
+    ensures write { result ≡ 4
+        → Rose (S.state shelf.old).write_faults (S.state shelf.new).write_faults }
+    ensures console { result ≡ 9
+        → Rose (C.state console.old).faults (C.state console.new).faults }
     // 10 comes only where so many bytes were taken.
     ensures too_long { result ≡ 10 → ((S.state shelf.new).taken ≡ SCENE_LIMIT + 1)
         ⊎ ((S.state shelf.new).taken ≡ MESH_LIMIT + 1) }

@@ -75,14 +75,37 @@ fn words_of_no_command(rt: HostRuntime) -> Result<(), Fail> {
 fn meshes_that_are_refused(rt: HostRuntime) -> Result<(), Fail> {
     let tail = "$EndNodes\n$Elements\n1\n7 4 2 0 1 1 2 3 4\n$EndElements\n";
     let table = [
-        ("2 100 0 0\n", "4 0 0 -100\n", 7, "geometry refused: not positive 7\n"),
-        ("2 100 0 0\n", "4 50 50 0\n", 7, "geometry refused: not positive 7\n"),
+        (
+            "2 100 0 0\n",
+            "4 0 0 -100\n",
+            7,
+            "geometry refused: not positive 7\n",
+        ),
+        (
+            "2 100 0 0\n",
+            "4 50 50 0\n",
+            7,
+            "geometry refused: not positive 7\n",
+        ),
         ("2 100 0 0\n", "4 0 0 26\n", 7, "geometry refused: thin 7\n"),
-        ("2 16385 0 0\n", "4 0 0 100\n", 7, "geometry refused: long 7\n"),
-        ("2 16384 0\n", "4 0 0 100\n", 6, "mesh refused: first form\n"),
+        (
+            "2 16385 0 0\n",
+            "4 0 0 100\n",
+            7,
+            "geometry refused: long 7\n",
+        ),
+        (
+            "2 16384 0\n",
+            "4 0 0 100\n",
+            6,
+            "mesh refused: first form\n",
+        ),
     ];
     for (second, fourth, status, line) in table {
-        for (words, name) in [(CHECK.as_slice(), "o_0000.msh"), (RUN.as_slice(), "fall_0000.msh")] {
+        for (words, name) in [
+            (CHECK.as_slice(), "o_0000.msh"),
+            (RUN.as_slice(), "fall_0000.msh"),
+        ] {
             let case = Case {
                 words,
                 mesh: &[HEAD, "1 0 0 0\n", second, "3 0 100 0\n", fourth, tail],
@@ -105,8 +128,16 @@ fn scenes_that_are_refused(rt: HostRuntime) -> Result<(), Fail> {
     let table = [
         ("kappa = 0\n", MATERIAL, "missing key tol\n"),
         ("kappa = 0\ntol = 0\n", MATERIAL, "out of range kappa 0\n"),
-        ("kappa = 0\ntol = 0\nkapa = 1\n", MATERIAL, "unknown key kapa\n"),
-        ("kappa = 1\ntol = 0\n", stiff, "out of range material.mu 1\n"),
+        (
+            "kappa = 0\ntol = 0\nkapa = 1\n",
+            MATERIAL,
+            "unknown key kapa\n",
+        ),
+        (
+            "kappa = 1\ntol = 0\n",
+            stiff,
+            "out of range material.mu 1\n",
+        ),
         ("kappa = 1\ntol = 0\ntol = 0\n", MATERIAL, "not toml\n"),
         ("kappa = 1\ntol = true\n", MATERIAL, "wrong type tol\n"),
     ];
@@ -155,8 +186,18 @@ fn frames_that_do_not_converge(rt: HostRuntime) -> Result<(), Fail> {
     let lower = "1 0 0 -1048575\n2 100 0 -1048575\n3 0 100 -1048575\n4 0 0 -1048475\n";
     let moved = "1 0 0 -1\n2 100 0 -1\n3 0 100 -1\n4 0 0 99\n";
     let table = [
-        (NODES, "budget = 10\ngravity = [0, 0, -300]\n", "frame 1 stalled 1\n", moved),
-        (low, "budget = 1\ngravity = [0, 0, -2048]\n", "frame 1 budget 1\n", lower),
+        (
+            NODES,
+            "budget = 10\ngravity = [0, 0, -300]\n",
+            "frame 1 stalled 1\n",
+            moved,
+        ),
+        (
+            low,
+            "budget = 1\ngravity = [0, 0, -2048]\n",
+            "frame 1 budget 1\n",
+            lower,
+        ),
     ];
     for (nodes, keys, line, after) in table {
         let rest = "frames = 1\ntol = 0\ndhat = 2\nkappa = 1\n";
@@ -178,7 +219,8 @@ fn frames_that_do_not_converge(rt: HostRuntime) -> Result<(), Fail> {
 #[test]
 fn files_that_are_replaced_and_files_that_stay(rt: HostRuntime) -> Result<(), Fail> {
     let names = "mesh = \"t_0001.msh\"\nout = \"t\"\ndigits = 0\n";
-    let whole = "$MeshFormat\n2.2 0 8\n$EndMeshFormat\n$Nodes\n4\n1 0 0 0\n2 100 0 0\n3 0 100 0\n4 0 0 100\n$EndNodes\n$Elements\n1\n1 4 2 0 1 1 2 3 4\n$EndElements\n";
+    let whole =
+        "$MeshFormat\n2.2 0 8\n$EndMeshFormat\n$Nodes\n4\n1 0 0 0\n2 100 0 0\n3 0 100 0\n4 0 0 100\n$EndNodes\n$Elements\n1\n1 4 2 0 1 1 2 3 4\n$EndElements\n";
     let mut desk = Desk::new(rt.alloc(), &["old"], &[names, FALL, MATERIAL])?;
     desk.shelf.put("t_0001.msh", whole.as_bytes())?;
     desk.shelf.put("t_0002.msh", b"old")?;
@@ -197,7 +239,11 @@ fn files_that_are_replaced_and_files_that_stay(rt: HostRuntime) -> Result<(), Fa
 fn files_that_are_not_there(rt: HostRuntime) -> Result<(), Fail> {
     let other = "mesh = \"u.msh\"\nout = \"fall\"\ndigits = 0\n";
     let table = [
-        (["run", "g\n\u{e9}.toml"], "read fault g???.toml\n", "g\n\u{e9}.toml"),
+        (
+            ["run", "g\n\u{e9}.toml"],
+            "read fault g???.toml\n",
+            "g\n\u{e9}.toml",
+        ),
         (["run", "f.toml"], "read fault u.msh\n", "u.msh"),
     ];
     for (words, line, name) in table {

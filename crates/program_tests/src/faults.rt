@@ -56,7 +56,15 @@ fn shelf_fails_at_each_write(rt: HostRuntime) -> Result<(), Fail> {
         // The file isn't there, is empty, or is whole.
         assert!(rt; stops_at(rt.alloc(), create, lines, name, None)?);
         assert!(rt; stops_at(rt.alloc(), create + 1, lines, name, Some(&[]))?);
-        assert!(rt; stops_at(rt.alloc(), create + 2, lines, name, Some(&[HEAD, nodes, TAIL]))?);
+        assert!(rt;
+            stops_at(
+                rt.alloc(),
+                create + 2,
+                lines,
+                name,
+                Some(&[HEAD, nodes, TAIL])
+            )?
+        );
     }
     // The earlier frames are whole.
     let desk = failing(rt.alloc(), 16, 0)?;

@@ -23,7 +23,8 @@ MayFollow (Refused refusal) plan = plan ≡ refusal
 -- follow them
 abbrev pub Answers : {X : Type 0} → List Act → Outcome X → Result X End → World → World → Type 0
 Answers acts outcome (Ok x) old new = (outcome ≡ Accepted x) × Did acts old new
-Answers acts outcome (Err end) old new = (rest : Plan) → MayFollow outcome rest → Follows (then_plan acts rest) (Err end) old new
+Answers acts outcome (Err end) old new =
+    (rest : Plan) → MayFollow outcome rest → Follows (then_plan acts rest) (Err end) old new
 
 -- a call took a file, and answered what comes of it
 pub record Takes {X : Type 0} (name : List ℕ) (limit : ℕ) (Means : List ℕ → Outcome X → Type 0) (result : Result X End) (old new : World) : Type 0 where

@@ -11,4 +11,4 @@ returns-in_err-bytes-clause-takes g c =
 
 pub returns-clause-takes : goal.returns-clause-takes
 returns-clause-takes g c =
-    taken_looked c.args.name.now MESH_LIMIT (MeshMeans c.args.numbers) c.in_ok-bytes.bytes.items _ _ (mesh_texts c.args.numbers) c.deref.ensures.value c.in_ok-bytes.ensures (c.read_mesh.ensures.looks (g.S.Shelf.state c.take_file.new.shelf))
+    taken_looked c.args.name.now MESH_LIMIT (MeshMeans c.args.numbers) c.in_ok-bytes.bytes.items _ _ (mesh_texts c.args.numbers) c.deref.ensures.value c.in_ok-bytes.ensures (c.bodies_of_bytes.ensures.looks (g.S.Shelf.state c.take_file.new.shelf))

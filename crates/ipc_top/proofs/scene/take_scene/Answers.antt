@@ -10,4 +10,4 @@ returns-in_err-bytes-clause-takes g c =
 
 pub returns-clause-takes : goal.returns-clause-takes
 returns-clause-takes g c =
-    taken_looked c.args.name.now SCENE_LIMIT SceneMeans c.in_ok-bytes.bytes.items _ _ scene_texts c.deref.ensures.value c.in_ok-bytes.ensures (c.look_through.ensures.looks (g.S.Shelf.state c.take_file.new.shelf))
+    taken_looked c.args.name.now SCENE_LIMIT SceneMeans c.in_ok-bytes.bytes.items _ _ scene_texts c.deref.ensures.value c.in_ok-bytes.ensures (c.scene_of_bytes.ensures.looks (g.S.Shelf.state c.take_file.new.shelf))

@@ -6,12 +6,12 @@ use Rattle.ipc_top.specs.Meshes.{setup_outcome, MeshMeans, NoMesh, OfMesh}
 use Rattle.ipc_top.specs.Plans.{plan_of}
 use Rattle.ipc_top.proofs.Outcomes.{some_mesh, mesh_texts}
 use Rattle.ipc_top.proofs.Taking.{looked_as, looked_nothing, looked_refused}
-use Rattle.ipc_top.proofs.mesh.read_mesh.Goals as goal
+use Rattle.ipc_top.proofs.mesh.bodies_of_bytes.Goals as goal
 
 pub returns-in-Ok-clause-looks : goal.returns-in-Ok-clause-looks
 returns-in-Ok-clause-looks g c = λ s.
     looked_as (λ o. o ≡ setup_outcome (setup_of c.in-Ok.mesh c.args.numbers)) (MeshMeans c.args.numbers c.args.bytes.now) _
-    (λ o is. OfMesh c.in-Ok.mesh (record { first_form = c.in-Ok.ensures.accepted }) is) (c.set_up.ensures.looks s)
+    (λ o is. OfMesh c.in-Ok.mesh (record { first_form = c.in-Ok.ensures.accepted }) is) (c.bodies_of_mesh.ensures.looks s)
 
 pub returns-in-Err-Memory-clause-looks : goal.returns-in-Err-Memory-clause-looks
 returns-in-Err-Memory-clause-looks g c = λ s.

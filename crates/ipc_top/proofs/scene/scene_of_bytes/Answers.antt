@@ -5,7 +5,7 @@ use Rattle.ipc_top.specs.Lines.{scene_refused_line}
 use Rattle.ipc_top.specs.Plans.{plan_of}
 use Rattle.ipc_top.proofs.Outcomes.{some_scene, scene_texts}
 use Rattle.ipc_top.proofs.Taking.{looked_well, looked_nothing, looked_refused}
-use Rattle.ipc_top.proofs.scene.look_through.Goals as goal
+use Rattle.ipc_top.proofs.scene.scene_of_bytes.Goals as goal
 
 pub returns-in-Ok-clause-looks : goal.returns-in-Ok-clause-looks
 returns-in-Ok-clause-looks g c = λ s. looked_well (SceneMeans c.args.bytes.now) _ _ (ap scene_outcome (sym c.in-Ok.ensures.scene))

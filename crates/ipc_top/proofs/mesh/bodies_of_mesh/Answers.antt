@@ -6,7 +6,7 @@ use Rattle.ipc_top.specs.Meshes.{setup_outcome}
 use Rattle.ipc_top.specs.Plans.{plan_of}
 use Rattle.ipc_top.proofs.Outcomes.{setup_texts, found_of}
 use Rattle.ipc_top.proofs.Taking.{looked_well, looked_nothing, looked_refused}
-use Rattle.ipc_top.proofs.mesh.set_up.Goals as goal
+use Rattle.ipc_top.proofs.mesh.bodies_of_mesh.Goals as goal
 
 pub returns-in_default-clause-looks : goal.returns-in_default-clause-looks
 returns-in_default-clause-looks g c = λ s.
