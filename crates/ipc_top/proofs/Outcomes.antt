@@ -19,7 +19,6 @@ use Rattle.list_laws.proofs.Decisions.{dec_All}
 use Rattle.scene_toml.specs.declared.scene.Scene.{Scene}
 use Rattle.scene_toml.specs.declared.refusal.SceneErr.{SceneErr}
 use Rattle.scene_toml.specs.Scenes.{scene_of_text}
-use Rattle.frame_driver.proofs.Decided.{dec_All}
 use Rattle.frame_driver.proofs.DecidedSteps.{dec_Within}
 use Rattle.ipc_top.specs.Acts.{Say}
 use Rattle.ipc_top.specs.CallsFor.{SceneMeans, scene_outcome}

@@ -10,7 +10,7 @@ use Rattle.surface_mesh.specs.declared.setup.Setup.{Setup}
 use Rattle.surface_mesh.specs.Setup.{setup_of, rest_of}
 use Rattle.mesh_check.specs.declared.defects.Defect.TheVariants as defects
 use Rattle.mesh_check.specs.Defects.{first_defect, first_not_positive, first_thin, first_long, first_heavy}
-use Rattle.mesh_check.proofs.Searches.{none_found}
+use Rattle.list_laws.proofs.Searches.{none_found}
 use Rattle.frame_driver.specs.Frames.{Frame}
 use Rattle.frame_driver.specs.Paths.{first_before}
 use Rattle.frame_driver.proofs.UprightPaths.{path_upright}

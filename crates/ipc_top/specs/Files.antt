@@ -21,9 +21,9 @@ too_long_plan name limit = plan_of (Say (too_long_line name (limit + 1)) ∷ [])
 pub data FileMeans {X : Type 0} (name : List ℕ) (limit : ℕ) (Means : List ℕ → Outcome X → Type 0) (file : Option (List ℕ)) (outcome : Outcome X) : Type 0 where
   Missing : file ≡ None → outcome ≡ Refused missing_plan → FileMeans name limit Means file outcome
   TooLong : (bytes : List ℕ) → file ≡ Some bytes → limit < length bytes
-    → outcome ≡ Refused (too_long_plan name limit) → FileMeans name limit Means file outcome
+      → outcome ≡ Refused (too_long_plan name limit) → FileMeans name limit Means file outcome
   Whole : (bytes : List ℕ) → file ≡ Some bytes → length bytes ≤ limit
-    → Means bytes outcome → FileMeans name limit Means file outcome
+      → Means bytes outcome → FileMeans name limit Means file outcome
 
 -- what follows an outcome: the refusal's plan, or one that `Next` calls for
 abbrev pub Continues : {X : Type 0} → Outcome X → (X → Plan → Type 0) → Plan → Type 0

@@ -34,6 +34,6 @@ setup_outcome setup =
 -- this comes of a text: it means no mesh, or what its mesh makes with these numbers is looked through
 pub data MeshMeans (numbers : Numbers) (bytes : List ℕ) (outcome : Outcome Setup) : Type 0 where
   NoMesh : ((mesh : Mesh) → ¬ Means bytes mesh)
-    → outcome ≡ Refused mesh_refused_plan → MeshMeans numbers bytes outcome
+      → outcome ≡ Refused mesh_refused_plan → MeshMeans numbers bytes outcome
   OfMesh : (mesh : Mesh) → Means bytes mesh
-    → outcome ≡ setup_outcome (setup_of mesh numbers) → MeshMeans numbers bytes outcome
+      → outcome ≡ setup_outcome (setup_of mesh numbers) → MeshMeans numbers bytes outcome

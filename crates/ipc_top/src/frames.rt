@@ -26,7 +26,7 @@ pub fn show_frames<S: Shelf, C: Sink>(
 ) -> Result<bool, Stop>
     ensures { (frames : List Frame) → AreNext sim.old job.now.frames frames
         → ShowsFrames (job_of job.now sim.old.setup.numbers) sim.old.setup sim.old.places
-            frames result
+        frames result
         (world (S.state shelf.old) (C.state console.old))
         (world (S.state shelf.new) (C.state console.new)) }
 {
