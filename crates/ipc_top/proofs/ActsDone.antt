@@ -5,7 +5,7 @@ use Rattle.std.specs.Io.KnownBytes.{append_known}
 use Rattle.shelf_io.specs.Shelf.{Files, ShelfState}
 use Rattle.ipc_top.specs.declared.acts.Stop.{Stop}
 use Rattle.ipc_top.specs.declared.acts.Stop.TheVariants as stops
-use Rattle.ipc_top.specs.Acts.{Act, Take, Put, Say, files_after, told_after, said, World, Did, ShelfStays, ReadFault, WriteFault, IsLineOf, Next, Unread, Unwritten, IsDue, Fails, Stops}
+use Rattle.ipc_top.specs.Acts.{Act, Take, Put, Say, files_after, told_after, said, World, Did, ShelfStays, ReadFault, WriteFault, IsLineOf, Next, Unread, Unwritten, IsDue, StopsNext, Stops}
 use Rattle.ipc_top.specs.Calls.Acts.{Does}
 
 pub files_after-append : (xs ys : List Act) (fs : Files) → files_after (xs ++ ys) fs ≡ files_after ys (files_after xs fs)
@@ -84,7 +84,7 @@ line_before ys (Next n) = Next (record { later = n.later ++ ys; next = longer ys
 line_before ys (Unread fault is) = Unread (read_before ys fault) is
 line_before ys (Unwritten fault is) = Unwritten (write_before ys fault) is
 
-fails_before : (stop : Stop) (due ys : List Act) (old new : World) → Fails stop due old new → Fails stop (due ++ ys) old new
+fails_before : (stop : Stop) (due ys : List Act) (old new : World) → StopsNext stop due old new → StopsNext stop (due ++ ys) old new
 unfolding read_before write_before
 fails_before stops.Read due ys old new f = record { fault = read_before ys f.fault; written = f.written; faults = f.faults }
 fails_before stops.Write due ys old new f = record { fault = write_before ys f.fault; written = f.written; faults = f.faults }
@@ -103,7 +103,7 @@ stops_before {stop} {old} {new} xs ys q = record {
 }
 
 -- the first act was stopped
-pub stops_first : {stop : Stop} {old new : World} (acts : List Act) → Fails stop acts old new → Stops stop acts old new
+pub stops_first : {stop : Stop} {old new : World} (acts : List Act) → StopsNext stop acts old new → Stops stop acts old new
 stops_first {stop} {old} {new} acts f = record { done = []; due = acts; list = refl; between = old; did = did_nothing old; fails = f }
 
 -- an act of a list is due

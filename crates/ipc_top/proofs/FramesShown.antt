@@ -88,8 +88,8 @@ pub none_shown : (held : Numbers → Job) (start : SimState) (frames : List Fram
 none_shown held start frames w path = record { first = []; rest = frames; list = refl; numbered = refl; stands = refl; to_come = path; did = did_nothing w; converged = refl }
 
 -- one frame more
-pub one_more : (held : Numbers → Job) (start sim next : SimState) (number : ℕ) (all told : Bool) (frames : List Frame) (end : FrameEnd) {old mid new : World} → number ≤ length frames → SoFar held start sim number all frames old mid → Advances end sim next → told ≡ is_converged end → ((frame : Frame) → AreNext sim 1 (frame ∷ []) → Did (acts_of_frame (held sim.setup.numbers) sim.setup number sim.places frame) mid new) → SoFar held start next (number + 1) (all && told) frames old new
-one_more held start sim next number all told frames end {old} {mid} {new} l g h tells did =
+pub frame_more : (held : Numbers → Job) (start sim next : SimState) (number : ℕ) (all told : Bool) (frames : List Frame) (end : FrameEnd) {old mid new : World} → number ≤ length frames → SoFar held start sim number all frames old mid → Advances end sim next → told ≡ is_converged end → ((frame : Frame) → AreNext sim 1 (frame ∷ []) → Did (acts_of_frame (held sim.setup.numbers) sim.setup number sim.places frame) mid new) → SoFar held start next (number + 1) (all && told) frames old new
+frame_more held start sim next number all told frames end {old} {mid} {new} l g h tells did =
     let job = held start.setup.numbers in
     let b = more_to_come g.first g.rest number g.numbered (subst (λ (fs : List Frame). number ≤ length fs) g.list l) in
     let frame = b.frame in

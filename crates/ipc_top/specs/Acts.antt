@@ -132,12 +132,12 @@ pub record LacksMemory (due : List Act) (old new : World) : Type 0 where
   pub shelf : ShelfStays old.shelf new.shelf
   pub console : new.console ≡ old.console
 
--- what stops the acts that are due
-abbrev pub Fails : Stop → List Act → World → World → Type 0
-Fails stops.Read due = TakeFails due
-Fails stops.Write due = PutFails due
-Fails stops.Console due = SayFails due
-Fails stops.Memory due = LacksMemory due
+-- what stops the next of the acts that are due
+abbrev pub StopsNext : Stop → List Act → World → World → Type 0
+StopsNext stops.Read due = TakeFails due
+StopsNext stops.Write due = PutFails due
+StopsNext stops.Console due = SayFails due
+StopsNext stops.Memory due = LacksMemory due
 
 -- some first acts were done, up to a world between, and what stopped the others was this
 pub record Stops (stop : Stop) (acts : List Act) (old new : World) : Type 0 where
@@ -146,4 +146,4 @@ pub record Stops (stop : Stop) (acts : List Act) (old new : World) : Type 0 wher
   pub list : acts ≡ done ++ due
   pub between : World
   pub did : Did done old between
-  pub fails : Fails stop due between new
+  pub fails : StopsNext stop due between new

@@ -44,29 +44,46 @@ fn stops_at(
     Ok(desk.says(4, &said)? && told && desk.has(name, left)?)
 }
 
+// The file isn't there, is empty, or is whole.
 #[test]
 fn shelf_fails_at_each_write(rt: HostRuntime) -> Result<(), Fail> {
-    let table: [(u64, &[&str], &str, &str); 4] = [
-        (7, &LINES[..1], "fall_0000.msh", NODES),
-        (10, &LINES[..2], "fall_0001.msh", NODES_1),
-        (13, &LINES[..3], "fall_0002.msh", NODES_2),
-        (16, &LINES[..4], "fall_0003.msh", NODES_3),
+    let table: [(u64, &[&str], &str, Option<&[&str]>); 12] = [
+        (7, &LINES[..1], "fall_0000.msh", None),
+        (8, &LINES[..1], "fall_0000.msh", Some(&[])),
+        (9, &LINES[..1], "fall_0000.msh", Some(&[HEAD, NODES, TAIL])),
+        (10, &LINES[..2], "fall_0001.msh", None),
+        (11, &LINES[..2], "fall_0001.msh", Some(&[])),
+        (
+            12,
+            &LINES[..2],
+            "fall_0001.msh",
+            Some(&[HEAD, NODES_1, TAIL]),
+        ),
+        (13, &LINES[..3], "fall_0002.msh", None),
+        (14, &LINES[..3], "fall_0002.msh", Some(&[])),
+        (
+            15,
+            &LINES[..3],
+            "fall_0002.msh",
+            Some(&[HEAD, NODES_2, TAIL]),
+        ),
+        (16, &LINES[..4], "fall_0003.msh", None),
+        (17, &LINES[..4], "fall_0003.msh", Some(&[])),
+        (
+            18,
+            &LINES[..4],
+            "fall_0003.msh",
+            Some(&[HEAD, NODES_3, TAIL]),
+        ),
     ];
-    for (create, lines, name, nodes) in table {
-        // The file isn't there, is empty, or is whole.
-        assert!(rt; stops_at(rt.alloc(), create, lines, name, None)?);
-        assert!(rt; stops_at(rt.alloc(), create + 1, lines, name, Some(&[]))?);
-        assert!(rt;
-            stops_at(
-                rt.alloc(),
-                create + 2,
-                lines,
-                name,
-                Some(&[HEAD, nodes, TAIL])
-            )?
-        );
+    for (call, lines, name, left) in table {
+        assert!(rt; stops_at(rt.alloc(), call, lines, name, left)?);
     }
-    // The earlier frames are whole.
+    Ok(())
+}
+
+#[test]
+fn earlier_frames_stay_whole(rt: HostRuntime) -> Result<(), Fail> {
     let desk = failing(rt.alloc(), 16, 0)?;
     assert!(rt; desk.has("fall_0000.msh", Some(&[HEAD, NODES, TAIL]))?);
     assert!(rt; desk.has("fall_0002.msh", Some(&[HEAD, NODES_2, TAIL]))?);
@@ -75,17 +92,22 @@ fn shelf_fails_at_each_write(rt: HostRuntime) -> Result<(), Fail> {
     Ok(())
 }
 
+// Each line fails in turn; a sixth isn't said; and the line of a fault fails.
 #[test]
 fn console_fails_at_each_line(rt: HostRuntime) -> Result<(), Fail> {
-    for (call, said) in [(1, 0), (2, 1), (3, 2), (4, 3), (5, 4)] {
-        let desk = failing(rt.alloc(), 0, call)?;
-        assert!(rt; desk.says(9, &LINES[..said])?);
+    let table: [(u64, u64, u8, &[&str]); 7] = [
+        (0, 1, 9, &[]),
+        (0, 2, 9, &LINES[..1]),
+        (0, 3, 9, &LINES[..2]),
+        (0, 4, 9, &LINES[..3]),
+        (0, 5, 9, &LINES[..4]),
+        (0, 6, 0, &LINES),
+        (1, 1, 9, &[]),
+    ];
+    for (shelf_call, console_call, status, said) in table {
+        let desk = failing(rt.alloc(), shelf_call, console_call)?;
+        assert!(rt; desk.says(status, said)?);
     }
-    let desk = failing(rt.alloc(), 0, 6)?;
-    assert!(rt; desk.says(0, &LINES)?);
-    // The line of a fault fails.
-    let desk = failing(rt.alloc(), 1, 1)?;
-    assert!(rt; desk.says(9, &[])?);
     Ok(())
 }
 

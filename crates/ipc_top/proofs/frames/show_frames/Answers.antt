@@ -2,7 +2,7 @@ use Rattle.std.proofs.Common.{◌≤◌, ◌<◌, ◌+◌, List, length, arith}
 use Rattle.frame_driver.specs.Frames.{Frame}
 use Rattle.ipc_top.specs.Calls.Frames.{AreNext}
 use Rattle.ipc_top.specs.Calls.Jobs.{job_of}
-use Rattle.ipc_top.proofs.FramesShown.{none_shown, one_more, stopped_at, shows_stopped, all_shown}
+use Rattle.ipc_top.proofs.FramesShown.{none_shown, frame_more, stopped_at, shows_stopped, all_shown}
 use Rattle.ipc_top.proofs.frames.show_frames.Goals as goal
 
 pub loop-number-init : goal.loop-number-init
@@ -17,11 +17,11 @@ returns-in_err-end g c = λ frames next.
 pub loop-number-preserved : goal.loop-number-preserved
 loop-number-preserved g c = λ frames next.
     let within : c.loop-number.number ≤ length frames = omega arith in
-    one_more (job_of c.args.job.now) _ _ _ _ _ _ frames _ within (c.loop-number.invariant frames next) c.in_ok-end.ensures.advances c.is_converged-all.ensures c.in_ok-end.ensures.does
+    frame_more (job_of c.args.job.now) _ _ _ _ _ _ frames _ within (c.loop-number.invariant frames next) c.in_ok-end.ensures.advances c.is_converged-all.ensures c.in_ok-end.ensures.does
 
 pub returns-in_ok-end : goal.returns-in_ok-end
 returns-in_ok-end g c = λ frames next.
     let within : c.loop-number.number ≤ length frames = omega arith in
     let past : length frames < c.loop-number.number + 1 = omega arith in
-    let shown = all_shown (job_of c.args.job.now) _ _ _ _ frames past (one_more (job_of c.args.job.now) _ _ _ _ _ _ frames _ within (c.loop-number.invariant frames next) c.in_ok-end.ensures.advances c.is_converged-all.ensures c.in_ok-end.ensures.does) in
+    let shown = all_shown (job_of c.args.job.now) _ _ _ _ frames past (frame_more (job_of c.args.job.now) _ _ _ _ _ _ frames _ within (c.loop-number.invariant frames next) c.in_ok-end.ensures.advances c.is_converged-all.ensures c.in_ok-end.ensures.does) in
     record { does = shown.did; converged = shown.converged }
