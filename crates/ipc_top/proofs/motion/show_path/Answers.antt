@@ -3,11 +3,11 @@ use Rattle.ipc_top.specs.Calls.Jobs.{job_of}
 use Rattle.ipc_top.proofs.MotionsShown.{shown_none, shown_nothing, shown_from_start}
 use Rattle.ipc_top.proofs.motion.show_path.Goals as goal
 
-pub returns-then-job_frames_eq0 : goal.returns-then-job_frames_eq0
-returns-then-job_frames_eq0 g c = λ frames are. shown_none (job_of c.args.job.now c.args.setup.numbers) c.args.setup frames _ are.count c.if-job_frames_eq0.true
+pub returns-then-job-eq0 : goal.returns-then-job-eq0
+returns-then-job-eq0 g c = λ frames are. shown_none (job_of c.args.job.now c.args.setup.numbers) c.args.setup frames _ are.count c.if-job-eq0.true
 
 pub returns-in_err-sim : goal.returns-in_err-sim
-returns-in_err-sim g c = λ frames are. shown_nothing (job_of c.args.job.now c.args.setup.numbers) c.args.setup frames _ _ are.count c.if-job_frames_eq0.false c.from_residual.ensures.1
+returns-in_err-sim g c = λ frames are. shown_nothing (job_of c.args.job.now c.args.setup.numbers) c.args.setup frames _ _ are.count c.if-job-eq0.false c.from_residual.ensures.1
 
 pub returns : goal.returns
 returns g c = λ frames are.

@@ -15,7 +15,7 @@ returns-in-Err-Memory-clause-looks g c = λ s.
     let found = some_scene c.args.bytes.now in
     looked_nothing (SceneMeans c.args.bytes.now) found.0 _ found.1 (scene_texts c.args.bytes.now found.0 found.1)
 
-pub returns-clause-looks : goal.returns-clause-looks
-returns-clause-looks g c = λ s.
+pub returns-in-Err-Scene-clause-looks : goal.returns-in-Err-Scene-clause-looks
+returns-in-Err-Scene-clause-looks g c = λ s.
     let refused = rw c.in-Err-Scene.field-0-is at c.in-Err-Scene.ensures.scene in
     looked_refused _ _ (SceneMeans c.args.bytes.now) (plan_of (Say (scene_refused_line c.in-Err-Scene.err) ∷ []) 5) _ (ap scene_outcome (sym refused)) (c.refuse_scene.ensures s)

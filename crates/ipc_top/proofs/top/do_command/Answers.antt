@@ -15,4 +15,4 @@ pub returns-in-None-clause-obeys : goal.returns-in-None-clause-obeys
 returns-in-None-clause-obeys g c = usage_obeyed (map string_bytes c.args.words.now) _ c.in-None.ensures (c.refuse_words.ensures (g.S.Shelf.state c.args.shelf.now))
 
 pub returns-in-None-clause-too_long : goal.returns-in-None-clause-too_long
-returns-in-None-clause-too_long g c = λ e. absurd (not_ten _ _ usage_plan _ (λ h. omega arith) (c.refuse_words.ensures (g.S.Shelf.state c.args.shelf.now)) e)
+returns-in-None-clause-too_long g c = λ e. absurd (not_ten _ _ usage_plan (Err c.refuse_words.result) (λ h. omega arith) (c.refuse_words.ensures (g.S.Shelf.state c.args.shelf.now)) e)
