@@ -1,15 +1,16 @@
 -- What comes of a file: always one thing, and only one.
-use Rattle.std.proofs.Common.{◌≡◌, ◌<◌, ◌≤◌, ◌+◌, ◌^◌, ℕ, refl, ap, sym, subst, ◌∙◌, List, [], ◌∷◌, length, All, Option, Some, None, Result, Ok, Err, arith}
+use Rattle.std.proofs.Common.{◌≡◌, ◌<◌, ◌≤◌, ◌+◌, ℕ, refl, ap, sym, subst, ◌∙◌, List, [], ◌∷◌, length, All, Option, Some, None, Result, Ok, Err, arith}
 use Rattle.std.specs.Option.{option_map_or}
 use Rattle.std.proofs.Math.Decide.{dec_le}
 use Rattle.space3.specs.declared.vectors.V3.{V3}
 use Rattle.space3.specs.declared.lists.Tet.{Tet}
 use Rattle.space3.specs.declared.mesh.Mesh.{Mesh}
+use Rattle.space3.specs.declared.places.TheConstants.{BOX_LIMIT}
 use Rattle.space3.specs.Box.{IsInTheBox}
 use Rattle.line_fields.specs.Lines.{rows}
-use Rattle.msh_text.specs.Reading.{Nodes, sections_at}
-use Rattle.msh_text.proofs.Again.{one_mesh, no_mesh, no_mesh-outside}
-use Rattle.msh_text.proofs.Found.{sections_mean}
+use Rattle.msh_text.specs.Calls.Sections.{Nodes, sections_at}
+use Rattle.msh_text.proofs.WhatIsMeantIsRead.{one_mesh, no_mesh, no_mesh-outside}
+use Rattle.msh_text.proofs.WhatIsReadIsMeant.{sections_mean}
 use Rattle.surface_mesh.specs.declared.setup.Setup.{Setup}
 use Rattle.surface_mesh.specs.declared.materials.Numbers.{Numbers}
 use Rattle.surface_mesh.specs.Setup.{setup_of}
@@ -94,7 +95,7 @@ one_mesh_outcome numbers bytes a b (OfMesh mesh means is) (OfMesh mesh' means' i
     is ∙ ap (λ (m : Mesh). setup_outcome (setup_of m numbers)) (one_mesh (rows bytes) mesh mesh' means.first_form means'.first_form) ∙ sym is'
 
 dec_in_box : (places : List V3) → Dec (All IsInTheBox places)
-dec_in_box places = dec_All IsInTheBox (dec_Within (2 ^ 20)) places
+dec_in_box places = dec_All IsInTheBox (dec_Within BOX_LIMIT) places
 
 -- a text has an outcome
 pub some_mesh : (numbers : Numbers) (bytes : List ℕ) → (o : Outcome Setup) × MeshMeans numbers bytes o
