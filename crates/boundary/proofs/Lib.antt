@@ -1,8 +1,14 @@
 pub mod Ascending
+pub mod Corners
 pub mod GroupCuts
 pub mod Joining
+pub mod OneSurface
 pub mod Order
 pub mod OwnersInGroups
+pub mod PairFirsts
+pub mod PairOrder
+pub mod PairStands
 pub mod SortedGroups
 pub mod SortedOnce
 pub mod SurfaceFacts
+pub mod SurfaceParts

@@ -15,9 +15,9 @@ use Rattle.list_laws.proofs.StrictlySorted.{found_first, found_none, sorted_keys
 use Rattle.boundary.specs.declared.faces.Face.{Face}
 use Rattle.boundary.specs.Calls.Groups.{are_two_alike, first_corners, first_tets, groups_of, has_one, has_three}
 use Rattle.boundary.specs.Faces.{corners_of, faces_at, has_corners, have_same_turn, node_order, owners_of}
-use Rattle.boundary.specs.Refusals.{AreSame, AreThrice, IsClosed, IsSame, IsThrice}
+use Rattle.boundary.specs.Refusals.{AreSame, AreThrice, IsConforming, IsSame, IsThrice}
 use Rattle.boundary.specs.SortedLists.{IsSortedListOf}
-use Rattle.boundary.specs.Surface.{IsSingle}
+use Rattle.boundary.specs.Surface.{IsBoundaryFace}
 use Rattle.boundary.proofs.Order.{is_total}
 use Rattle.boundary.proofs.SortedGroups.{sorted_groups}
 
@@ -131,16 +131,16 @@ least_same mesh groups tets g none e =
     }
 
 -- where no group has three faces, and none two in the same turn, so it is for the faces of the mesh
-pub closed : (mesh : Mesh) (groups : List (List Face)) → AreOf mesh groups → None ≡ option_map (first_tets 3) (find has_three groups) → None ≡ option_map (first_tets 2) (find are_two_alike groups) → IsClosed mesh
-closed mesh groups g e f = record { none_thrice = none_thrice mesh groups g e; none_same = none_same mesh groups g f }
+pub conforming : (mesh : Mesh) (groups : List (List Face)) → AreOf mesh groups → None ≡ option_map (first_tets 3) (find has_three groups) → None ≡ option_map (first_tets 2) (find are_two_alike groups) → IsConforming mesh
+conforming mesh groups g e f = record { none_thrice = none_thrice mesh groups g e; none_same = none_same mesh groups g f }
 
 -- the groups of one face are those of the faces that one tetrahedron has
-pub singles : (mesh : Mesh) (groups : List (List Face)) (triangles : List (List ℕ)) → AreOf mesh groups → triangles ≡ map first_corners (filter has_one groups) → IsSortedListOf node_order (IsSingle mesh) triangles
+pub singles : (mesh : Mesh) (groups : List (List Face)) (triangles : List (List ℕ)) → AreOf mesh groups → triangles ≡ map first_corners (filter has_one groups) → IsSortedListOf node_order (IsBoundaryFace mesh) triangles
 singles mesh groups triangles g e =
-    subst (IsSortedListOf node_order (IsSingle mesh)) (sym e)
+    subst (IsSortedListOf node_order (IsBoundaryFace mesh)) (sym e)
     (record {
       sorted = sorted_keys-filter node_order first_corners has_one groups g.rising;
-      each = All-map (IsSingle mesh) first_corners (filter has_one groups) (λ k d l. single k d l);
+      each = All-map (IsBoundaryFace mesh) first_corners (filter has_one groups) (λ k d l. single k d l);
       all = λ corners s.
           let one : length (faces_at mesh corners) ≡ 1 = sym (owner_count mesh corners) ∙ s.once in
           let r = group_at mesh groups corners g (omega arith) in
@@ -149,7 +149,7 @@ singles mesh groups triangles g e =
           (Contains-filter has_one groups r.0 (eq-eqb (length r.0) 1 (ap length r.3 ∙ one)) r.1));
     })
   where
-    single : All (λ group. IsSingle mesh (first_corners group)) (filter has_one groups)
+    single : All (λ group. IsBoundaryFace mesh (first_corners group)) (filter has_one groups)
     single k d l =
         let group = get_or (filter has_one groups) k d in
         let there = Contains-from_filter has_one groups group (Contains-get_or (filter has_one groups) k d l) in

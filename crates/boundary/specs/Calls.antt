@@ -1,2 +1,4 @@
 -- What private functions give.
 pub mod Groups
+pub mod PairWalk
+pub mod Parts

@@ -1,5 +1,7 @@
 pub mod Calls
 pub mod Faces
+pub mod Pairs
+pub mod PartPlaces
 pub mod Refusals
 pub mod SortedLists
 pub mod Surface

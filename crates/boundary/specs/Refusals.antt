@@ -3,12 +3,12 @@ use Rattle.std.specs.Prelude.{ℕ, ◌≡◌, ◌≤◌, ◌<◌, List, [], ◌�
 use Rattle.std.specs.declared.cmp.Ordering.TheVariants.{Less}
 use Rattle.space3.specs.declared.mesh.Mesh.{Mesh}
 use Rattle.boundary.specs.declared.faces.Face.{Face}
-use Rattle.boundary.specs.declared.limits.TheConstants.{MOST_TRIANGLES}
+use Rattle.boundary.specs.declared.limits.TheConstants.{TRIANGLE_LIMIT}
 use Rattle.boundary.specs.declared.refusal.SurfErr.{SurfErr}
 use Rattle.boundary.specs.declared.refusal.SurfErr.TheVariants.{Memory, FaceThrice, FaceSame, TooManyTriangles}
 use Rattle.boundary.specs.Faces.{faces_at, have_same_turn, node_order, owners_of}
 use Rattle.boundary.specs.SortedLists.{IsSortedListOf}
-use Rattle.boundary.specs.Surface.{IsSingle}
+use Rattle.boundary.specs.Surface.{IsBoundaryFace}
 
 -- a face of three tetrahedra or more
 pub record IsThrice (mesh : Mesh) (corners : List ℕ) : Type 0 where
@@ -39,18 +39,18 @@ pub record AreSame (mesh : Mesh) (tets : List ℕ) : Type 0 where
   pub least : IsLeast (IsSame mesh) corners
   pub both : tets ≡ owners_of mesh corners
 
--- each face has one tetrahedron, or two on different sides
-pub record IsClosed (mesh : Mesh) : Type 0 where
+-- the mesh is conforming: each face has one tetrahedron, or two on different sides
+pub record IsConforming (mesh : Mesh) : Type 0 where
   pub none_thrice : (corners : List ℕ) → ¬ IsThrice mesh corners
   pub none_same : (corners : List ℕ) → ¬ IsSame mesh corners
 
 -- so many faces have one tetrahedron, which is too many
 pub record AreTooMany (mesh : Mesh) (count : ℕ) : Type 0 where
-  pub closed : IsClosed mesh
+  pub conforming : IsConforming mesh
   pub triangles : List (List ℕ)
-  pub single : IsSortedListOf node_order (IsSingle mesh) triangles
+  pub single : IsSortedListOf node_order (IsBoundaryFace mesh) triangles
   pub counted : count ≡ length triangles
-  pub many : MOST_TRIANGLES < count
+  pub many : TRIANGLE_LIMIT < count
 
 -- what each refusal says of the mesh
 abbrev pub Refuses : Mesh → SurfErr → Type 0

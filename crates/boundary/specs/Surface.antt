@@ -1,10 +1,10 @@
 -- What the surface of a mesh is.
-use Rattle.std.specs.Prelude.{ℕ, ◌≡◌, ◌≤◌, List, [], ◌∷◌, length, slice_index, All}
+use Rattle.std.specs.Prelude.{ℕ, ◌*◌, ◌≡◌, ◌≤◌, List, [], ◌∷◌, length, slice_index, All}
 use Rattle.std.specs.List.{Contains, flat_map}
 use Rattle.std.specs.List.Sorted.{IsStrictlySortedBy, IsStrictlyIncreasing}
 use Rattle.std.specs.Ordering.{nat_cmp}
 use Rattle.space3.specs.declared.mesh.Mesh.{Mesh}
-use Rattle.boundary.specs.declared.limits.TheConstants.{MOST_TRIANGLES}
+use Rattle.boundary.specs.declared.limits.TheConstants.{TRIANGLE_LIMIT}
 use Rattle.boundary.specs.Faces.{node_order, owners_of}
 use Rattle.boundary.specs.SortedLists.{IsSortedListOf}
 
@@ -14,8 +14,11 @@ pub record SurfaceLists : Type 0 where
   pub edges : List (List ℕ)
   pub triangles : List (List ℕ)
 
+abbrev pub lists_of : List ℕ → List (List ℕ) → List (List ℕ) → SurfaceLists
+lists_of vertices edges triangles = record { vertices = vertices; edges = edges; triangles = triangles }
+
 -- a face of exactly one tetrahedron
-pub record IsSingle (mesh : Mesh) (corners : List ℕ) : Type 0 where
+pub record IsBoundaryFace (mesh : Mesh) (corners : List ℕ) : Type 0 where
   pub once : length (owners_of mesh corners) ≡ 1
 
 -- the ascending pairs of an ascending triple
@@ -34,7 +37,7 @@ AreVertices triangles vertices = IsSortedListOf nat_cmp (Contains (flat_map (λ 
 
 -- the triangles are exactly the faces of one tetrahedron, sorted; edges and vertices are theirs
 pub record IsSurface (mesh : Mesh) (surface : SurfaceLists) : Type 0 where
-  pub triangles : IsSortedListOf node_order (IsSingle mesh) surface.triangles
+  pub triangles : IsSortedListOf node_order (IsBoundaryFace mesh) surface.triangles
   pub edges : AreEdges surface.triangles surface.edges
   pub vertices : AreVertices surface.triangles surface.vertices
 
@@ -45,7 +48,9 @@ pub record IsAscendingTriple (triangle : List ℕ) : Type 0 where
 
 -- what is known of every surface
 pub record AreSurfaceLists (surface : SurfaceLists) : Type 0 where
-  pub few : length surface.triangles ≤ MOST_TRIANGLES
+  pub few : length surface.triangles ≤ TRIANGLE_LIMIT
+  pub few_edges : length surface.edges ≤ 3 * TRIANGLE_LIMIT
+  pub few_vertices : length surface.vertices ≤ 3 * TRIANGLE_LIMIT
   pub each : All IsAscendingTriple surface.triangles
   pub sorted : IsStrictlySortedBy node_order surface.triangles
   pub edges : AreEdges surface.triangles surface.edges

@@ -5,10 +5,14 @@
 mod faces;
 mod groups;
 mod limits;
+mod pairs;
+mod parts;
 mod refusal;
 mod sides;
 mod surface;
 
-pub use limits::MOST_TRIANGLES;
+pub use limits::TRIANGLE_LIMIT;
+pub use pairs::{KINDS, Pair, PairKind, pairs_stand_in_order};
+pub use parts::PairParts;
 pub use refusal::SurfErr;
-pub use surface::Surface;
+pub use surface::{Surface, mesh_has_one_surface};

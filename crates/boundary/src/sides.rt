@@ -1,12 +1,13 @@
 //! The edges and the vertices of triangles.
-ghost use Rattle.std.specs.Prelude.{◌≡◌, IfOk};
+ghost use Rattle.std.specs.Prelude.{◌≡◌, ◌*◌, ◌≤◌, IfOk, length};
 ghost use Rattle.boundary.specs.Surface.{AreEdges, AreVertices, sides_of};
 
 use std::alloc::{AllocError, Global};
 
 /// The sides of the triangles, sorted, each once.
 pub(crate) fn edges_of(alloc: Global, triangles: &[[u32; 3]]) -> Result<Vec<[u32; 2]>, AllocError>
-    ensures { IfOk result (λ edges. AreEdges triangles.now edges.items) }
+    ensures edges { IfOk result (λ edges. AreEdges triangles.now edges.items) }
+    ensures few { IfOk result (λ edges. length edges.items ≤ 3 * length triangles.now) }
 {
     let mut edges = Vec::new(alloc);
     for triangle in triangles {
@@ -19,7 +20,8 @@ pub(crate) fn edges_of(alloc: Global, triangles: &[[u32; 3]]) -> Result<Vec<[u32
 
 /// The nodes of the triangles, sorted, each once.
 pub(crate) fn vertices_of(alloc: Global, triangles: &[[u32; 3]]) -> Result<Vec<u32>, AllocError>
-    ensures { IfOk result (λ vertices. AreVertices triangles.now vertices.items) }
+    ensures vertices { IfOk result (λ vertices. AreVertices triangles.now vertices.items) }
+    ensures few { IfOk result (λ vertices. length vertices.items ≤ 3 * length triangles.now) }
 {
     let mut vertices = Vec::new(alloc);
     for triangle in triangles {

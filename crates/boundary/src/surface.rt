@@ -1,12 +1,13 @@
 //! The surface of a mesh.
 ghost use Rattle.std.specs.Prelude.{◌≡◌, IfOk, IfErr};
 ghost use Rattle.space3.specs.Mesh.{HasNodes, IsSound};
-ghost use Rattle.boundary.specs.Refusals.{IsClosed, Refuses};
-ghost use Rattle.boundary.specs.Surface.{AreSurfaceLists, IsSurface};
+ghost use Rattle.space3.specs.declared.mesh.Mesh.{Mesh};
+ghost use Rattle.boundary.specs.Refusals.{IsConforming, Refuses};
+ghost use Rattle.boundary.specs.Surface.{AreSurfaceLists, IsSurface, SurfaceLists};
 
 use crate::faces::sorted_faces;
 use crate::groups::{first_same, first_thrice, single_corners};
-use crate::limits::MOST_TRIANGLES;
+use crate::limits::TRIANGLE_LIMIT;
 use crate::refusal::SurfErr;
 use crate::sides::{edges_of, vertices_of};
 use space3::Mesh;
@@ -22,13 +23,13 @@ pub struct Surface {
 }
 
 impl Model for Surface {
-    ghost use Rattle.boundary.specs.Surface.{AreSurfaceLists, SurfaceLists};
+    ghost use Rattle.boundary.specs.Surface.{AreSurfaceLists, SurfaceLists, lists_of};
 
     ghost Value = { SurfaceLists };
 
-    ghost view = { λ s. record { vertices = s.vertices.items; edges = s.edges.items; triangles = s.triangles.items } };
+    ghost view = { λ s. lists_of s.vertices.items s.edges.items s.triangles.items };
 
-    ghost invariant = { λ s. AreSurfaceLists (record { vertices = s.vertices.items; edges = s.edges.items; triangles = s.triangles.items }) };
+    ghost invariant = { λ s. AreSurfaceLists (lists_of s.vertices.items s.edges.items s.triangles.items) };
 }
 
 impl Surface {
@@ -36,7 +37,7 @@ impl Surface {
     pub fn build(alloc: Global, mesh: &Mesh) -> Result<Self, SurfErr>
         requires { IsSound mesh.now }
         ensures surface { IfOk result (λ surface. IsSurface mesh.now surface) }
-        ensures closed { IfOk result (λ _. IsClosed mesh.now) }
+        ensures conforming { IfOk result (λ _. IsConforming mesh.now) }
         ensures placed { IfOk result (λ surface. HasNodes mesh.now.places surface.vertices) }
         ensures refused { IfErr result (Refuses mesh.now) }
     {
@@ -48,7 +49,7 @@ impl Surface {
             return Err(SurfErr::FaceSame { tets });
         }
         let triangles = single_corners(alloc, &faces)?;
-        if triangles.len() > MOST_TRIANGLES as usize {
+        if triangles.len() > TRIANGLE_LIMIT as usize {
             return Err(SurfErr::TooManyTriangles {
                 count: triangles.len() as u64,
             });
@@ -86,3 +87,8 @@ impl Surface {
         self.triangles.as_slice()
     }
 }
+
+/// Law: a mesh has at most one surface.
+pub fn mesh_has_one_surface()
+    ensures { (mesh : Mesh) (s t : SurfaceLists) → IsSurface mesh s → IsSurface mesh t → s ≡ t }
+{}

@@ -1,12 +1,14 @@
 pub mod Chains
 pub mod Decisions
 pub mod Elements
+pub mod Filters
 pub mod Images
 pub mod Membership
 pub mod PairsOfElements
 pub mod Positions
 pub mod Pushes
 pub mod Searches
+pub mod SortedJoins
 pub mod StrictlySorted
 pub mod Sums
 pub mod Writes

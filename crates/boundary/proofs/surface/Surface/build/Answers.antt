@@ -1,9 +1,9 @@
-use Rattle.std.proofs.Common.{◌∙◌, ap, subst, map, arith}
+use Rattle.std.proofs.Common.{◌∙◌, ◌*◌, ◌≤◌, ap, subst, length, map, arith}
 use Rattle.std.specs.Prelude.{find, filter}
 use Rattle.std.specs.Option.{option_map}
 use Rattle.boundary.specs.Calls.Groups.{are_two_alike, first_corners, first_tets, groups_of, has_one, has_three}
 use Rattle.boundary.specs.Surface.{AreEdges, AreVertices}
-use Rattle.boundary.proofs.OwnersInGroups.{closed, groups_of_mesh, least_thrice, least_same, none_thrice, singles}
+use Rattle.boundary.proofs.OwnersInGroups.{conforming, groups_of_mesh, least_thrice, least_same, none_thrice, singles}
 use Rattle.boundary.proofs.SurfaceFacts.{surface_lists, surface_placed}
 use Rattle.boundary.proofs.surface.Surface.build.Goals as goal
 
@@ -32,7 +32,7 @@ returns-then-len-clause-refused c =
     let faces = c.in_ok-faces.faces.items in
     let groups = groups_of_mesh mesh faces c.in_ok-faces.ensures.sorted c.in_ok-faces.ensures.same in
     record {
-      closed = closed mesh (groups_of faces) groups
+      conforming = conforming mesh (groups_of faces) groups
           (c.in_default.ensures ∙ ap (λ l. option_map (first_tets 3) (find has_three (groups_of l))) c.deref.ensures.value)
           (c.in_default-first_same.ensures
           ∙ ap (λ l. option_map (first_tets 2) (find are_two_alike (groups_of l))) c.deref-2.ensures.value);
@@ -54,8 +54,10 @@ invariant_of-result c =
     (groups_of_mesh mesh faces c.in_ok-faces.ensures.sorted c.in_ok-faces.ensures.same)
     (c.in_ok-triangles.ensures ∙ ap (λ l. map first_corners (filter has_one (groups_of l))) c.deref-3.ensures.value)
     (omega (arith, c.if-len.false, c.len.ensures, c.in_ok-triangles.triangles.ok.0))
-    (subst (λ l. AreEdges l c.in_ok-edges.edges.items) c.deref-4.ensures.value c.in_ok-edges.ensures)
-    (subst (λ l. AreVertices l c.in_ok-vertices.vertices.items) c.deref-5.ensures.value c.in_ok-vertices.ensures)
+    (subst (λ l. length c.in_ok-edges.edges.items ≤ 3 * length l) c.deref-4.ensures.value c.in_ok-edges.ensures.few)
+    (subst (λ l. length c.in_ok-vertices.vertices.items ≤ 3 * length l) c.deref-5.ensures.value c.in_ok-vertices.ensures.few)
+    (subst (λ l. AreEdges l c.in_ok-edges.edges.items) c.deref-4.ensures.value c.in_ok-edges.ensures.edges)
+    (subst (λ l. AreVertices l c.in_ok-vertices.vertices.items) c.deref-5.ensures.value c.in_ok-vertices.ensures.vertices)
 
 pub returns-clause-surface : goal.returns-clause-surface
 returns-clause-surface c =
@@ -65,15 +67,15 @@ returns-clause-surface c =
       triangles = singles mesh (groups_of faces) c.in_ok-triangles.triangles.items
           (groups_of_mesh mesh faces c.in_ok-faces.ensures.sorted c.in_ok-faces.ensures.same)
           (c.in_ok-triangles.ensures ∙ ap (λ l. map first_corners (filter has_one (groups_of l))) c.deref-3.ensures.value);
-      edges = subst (λ l. AreEdges l c.in_ok-edges.edges.items) c.deref-4.ensures.value c.in_ok-edges.ensures;
-      vertices = subst (λ l. AreVertices l c.in_ok-vertices.vertices.items) c.deref-5.ensures.value c.in_ok-vertices.ensures;
+      edges = subst (λ l. AreEdges l c.in_ok-edges.edges.items) c.deref-4.ensures.value c.in_ok-edges.ensures.edges;
+      vertices = subst (λ l. AreVertices l c.in_ok-vertices.vertices.items) c.deref-5.ensures.value c.in_ok-vertices.ensures.vertices;
     }
 
-pub returns-clause-closed : goal.returns-clause-closed
-returns-clause-closed c =
+pub returns-clause-conforming : goal.returns-clause-conforming
+returns-clause-conforming c =
     let mesh = c.args.mesh.now in
     let faces = c.in_ok-faces.faces.items in
-    closed mesh (groups_of faces)
+    conforming mesh (groups_of faces)
     (groups_of_mesh mesh faces c.in_ok-faces.ensures.sorted c.in_ok-faces.ensures.same)
     (c.in_default.ensures ∙ ap (λ l. option_map (first_tets 3) (find has_three (groups_of l))) c.deref.ensures.value)
     (c.in_default-first_same.ensures
@@ -86,4 +88,4 @@ returns-clause-placed c =
     surface_placed mesh (groups_of faces) c.in_ok-triangles.triangles.items c.in_ok-vertices.vertices.items c.requires
     (groups_of_mesh mesh faces c.in_ok-faces.ensures.sorted c.in_ok-faces.ensures.same)
     (c.in_ok-triangles.ensures ∙ ap (λ l. map first_corners (filter has_one (groups_of l))) c.deref-3.ensures.value)
-    (subst (λ l. AreVertices l c.in_ok-vertices.vertices.items) c.deref-5.ensures.value c.in_ok-vertices.ensures)
+    (subst (λ l. AreVertices l c.in_ok-vertices.vertices.items) c.deref-5.ensures.value c.in_ok-vertices.ensures.vertices)
