@@ -31,49 +31,6 @@ impl Model for Places {
     ghost invariant = { λ p. ArePlaces p.list.items };
 }
 
-fn is_in_limit(a: i64) -> bool
-    ensures { IsTrue result ↔ AtMost BOX_LIMIT a }
-{
-    a.unsigned_abs() <= u64::from(BOX_LIMIT)
-}
-
-fn is_in_box(place: V3) -> bool
-    ensures { IsTrue result ↔ IsInTheBox place }
-{
-    is_in_limit(place.x) && is_in_limit(place.y) && is_in_limit(place.z)
-}
-
-fn are_in_box(list: &[V3]) -> bool
-    ensures { IsTrue result ↔ All IsInTheBox list.now }
-{
-    list.iter().all(|place| is_in_box(*place))
-}
-
-// The place after a move along the direction, which is halved so many times.
-fn moved_place(place: V3, dir: V3, half: u8) -> V3
-    requires place { IsInTheBox place }
-    requires direction { Within DIRECTION_LIMIT dir }
-    requires half { half ≤ HALVING_LIMIT }
-    ensures { result ≡ sum_of place (halved half dir) }
-{
-    sum_of(place, halved(dir, half))
-}
-
-// The places after a move along the directions, which are halved so many times.
-fn moved_places(alloc: Global, places: &[V3], dir: &[V3], half: u8) -> Result<Vec<V3>, AllocError>
-    requires as_many { length dir.now ≡ length places.now }
-    requires places { All IsInTheBox places.now }
-    requires directions { All (Within DIRECTION_LIMIT) dir.now }
-    requires half { half ≤ HALVING_LIMIT }
-    ensures { IfOk result (λ made. made.items ≡ moved_by places.now dir.now half) }
-{
-    let mut made = Vec::with_capacity(alloc, places.len())?;
-    for (i, place) in places.iter().enumerate() {
-        made.push(moved_place(*place, dir[i], half))?;
-    }
-    Ok(made)
-}
-
 impl Places {
     /// How many places there are.
     pub fn len(&self) -> u32
@@ -140,4 +97,47 @@ impl Places {
             Ok(None)
         }
     }
+}
+
+fn are_in_box(list: &[V3]) -> bool
+    ensures { IsTrue result ↔ All IsInTheBox list.now }
+{
+    list.iter().all(|place| is_in_box(*place))
+}
+
+fn is_in_box(place: V3) -> bool
+    ensures { IsTrue result ↔ IsInTheBox place }
+{
+    is_in_limit(place.x) && is_in_limit(place.y) && is_in_limit(place.z)
+}
+
+fn is_in_limit(a: i64) -> bool
+    ensures { IsTrue result ↔ AtMost BOX_LIMIT a }
+{
+    a.unsigned_abs() <= u64::from(BOX_LIMIT)
+}
+
+// The places after a move along the directions, which are halved so many times.
+fn moved_places(alloc: Global, places: &[V3], dir: &[V3], half: u8) -> Result<Vec<V3>, AllocError>
+    requires as_many { length dir.now ≡ length places.now }
+    requires places { All IsInTheBox places.now }
+    requires directions { All (Within DIRECTION_LIMIT) dir.now }
+    requires half { half ≤ HALVING_LIMIT }
+    ensures { IfOk result (λ made. made.items ≡ moved_by places.now dir.now half) }
+{
+    let mut made = Vec::with_capacity(alloc, places.len())?;
+    for (i, place) in places.iter().enumerate() {
+        made.push(moved_place(*place, dir[i], half))?;
+    }
+    Ok(made)
+}
+
+// The place after a move along the direction, which is halved so many times.
+fn moved_place(place: V3, dir: V3, half: u8) -> V3
+    requires place { IsInTheBox place }
+    requires direction { Within DIRECTION_LIMIT dir }
+    requires half { half ≤ HALVING_LIMIT }
+    ensures { result ≡ sum_of place (halved half dir) }
+{
+    sum_of(place, halved(dir, half))
 }

@@ -26,6 +26,78 @@ pub struct W3 {
     pub z: i128,
 }
 
+/// The difference `a − b`. Components are at most [`VECTOR_LIMIT`] in absolute value.
+pub fn sub(a: V3, b: V3) -> V3
+    requires left { Within VECTOR_LIMIT a }
+    requires right { Within VECTOR_LIMIT b }
+    ensures { result ≡ difference a b }
+{
+    V3 {
+        x: less(a.x, b.x),
+        y: less(a.y, b.y),
+        z: less(a.z, b.z),
+    }
+}
+
+/// The dot product `a · b`. Components are at most [`VECTOR_LIMIT`] in absolute value.
+pub fn dot(a: V3, b: V3) -> i128
+    requires left { Within VECTOR_LIMIT a }
+    requires right { Within VECTOR_LIMIT b }
+    ensures { result ≡ dot_product a b }
+{
+    plus(plus(times(a.x, b.x), times(a.y, b.y)), times(a.z, b.z))
+}
+
+/// The cross product `a × b`. Components are at most [`VECTOR_LIMIT`] in absolute value, and those of the
+/// answer at most [`CROSS_LIMIT`].
+pub fn cross(a: V3, b: V3) -> W3
+    requires left { Within VECTOR_LIMIT a }
+    requires right { Within VECTOR_LIMIT b }
+    ensures value { unbounded result ≡ cross_product a b }
+    ensures bound { Within CROSS_LIMIT (unbounded result) }
+{
+    W3 {
+        x: minor(a.y, a.z, b.y, b.z),
+        y: minor(a.z, a.x, b.z, b.x),
+        z: minor(a.x, a.y, b.x, b.y),
+    }
+}
+
+/// The determinant `a · (b × c)`. Components are at most [`VECTOR_LIMIT`] in absolute value.
+pub fn det(a: V3, b: V3, c: V3) -> i128
+    requires first { Within VECTOR_LIMIT a }
+    requires second { Within VECTOR_LIMIT b }
+    requires third { Within VECTOR_LIMIT c }
+    ensures { result ≡ determinant a b c }
+{
+    dot_wide(a, cross(b, c))
+}
+
+/// The dot product `a · b` with a cross product. Components of `a` are at most [`VECTOR_LIMIT`] in absolute value,
+/// those of `b` at most [`CROSS_LIMIT`].
+pub fn dot_wide(a: V3, b: W3) -> i128
+    requires left { Within VECTOR_LIMIT a }
+    requires right { Within CROSS_LIMIT (unbounded b) }
+    ensures { result ≡ dot_product a (unbounded b) }
+{
+    plus(
+        plus(times_wide(a.x, b.x), times_wide(a.y, b.y)),
+        times_wide(a.z, b.z),
+    )
+}
+
+/// The minor `a·d − b·c`.
+fn minor(a: i64, b: i64, c: i64, d: i64) -> i128
+    requires top_left { AtMost VECTOR_LIMIT a }
+    requires top_right { AtMost VECTOR_LIMIT b }
+    requires low_left { AtMost VECTOR_LIMIT c }
+    requires low_right { AtMost VECTOR_LIMIT d }
+    ensures value { result ≡ a *ℤ d -ℤ b *ℤ c }
+    ensures bound { AtMost CROSS_LIMIT result }
+{
+    minus(times(a, d), times(b, c))
+}
+
 fn times(a: i64, b: i64) -> i128
     requires left { AtMost VECTOR_LIMIT a }
     requires right { AtMost VECTOR_LIMIT b }
@@ -66,76 +138,4 @@ fn less(a: i64, b: i64) -> i64
     ensures { result ≡ a -ℤ b }
 {
     a - b
-}
-
-/// The difference `a − b`. Components are at most [`VECTOR_LIMIT`] in absolute value.
-pub fn sub(a: V3, b: V3) -> V3
-    requires left { Within VECTOR_LIMIT a }
-    requires right { Within VECTOR_LIMIT b }
-    ensures { result ≡ difference a b }
-{
-    V3 {
-        x: less(a.x, b.x),
-        y: less(a.y, b.y),
-        z: less(a.z, b.z),
-    }
-}
-
-/// The minor `a·d − b·c`.
-fn minor(a: i64, b: i64, c: i64, d: i64) -> i128
-    requires top_left { AtMost VECTOR_LIMIT a }
-    requires top_right { AtMost VECTOR_LIMIT b }
-    requires low_left { AtMost VECTOR_LIMIT c }
-    requires low_right { AtMost VECTOR_LIMIT d }
-    ensures value { result ≡ a *ℤ d -ℤ b *ℤ c }
-    ensures bound { AtMost CROSS_LIMIT result }
-{
-    minus(times(a, d), times(b, c))
-}
-
-/// The dot product `a · b`. Components are at most [`VECTOR_LIMIT`] in absolute value.
-pub fn dot(a: V3, b: V3) -> i128
-    requires left { Within VECTOR_LIMIT a }
-    requires right { Within VECTOR_LIMIT b }
-    ensures { result ≡ dot_product a b }
-{
-    plus(plus(times(a.x, b.x), times(a.y, b.y)), times(a.z, b.z))
-}
-
-/// The cross product `a × b`. Components are at most [`VECTOR_LIMIT`] in absolute value, and those of the
-/// answer at most [`CROSS_LIMIT`].
-pub fn cross(a: V3, b: V3) -> W3
-    requires left { Within VECTOR_LIMIT a }
-    requires right { Within VECTOR_LIMIT b }
-    ensures value { unbounded result ≡ cross_product a b }
-    ensures bound { Within CROSS_LIMIT (unbounded result) }
-{
-    W3 {
-        x: minor(a.y, a.z, b.y, b.z),
-        y: minor(a.z, a.x, b.z, b.x),
-        z: minor(a.x, a.y, b.x, b.y),
-    }
-}
-
-/// The dot product `a · b` with a cross product. Components of `a` are at most [`VECTOR_LIMIT`] in absolute value,
-/// those of `b` at most [`CROSS_LIMIT`].
-pub fn dot_wide(a: V3, b: W3) -> i128
-    requires left { Within VECTOR_LIMIT a }
-    requires right { Within CROSS_LIMIT (unbounded b) }
-    ensures { result ≡ dot_product a (unbounded b) }
-{
-    plus(
-        plus(times_wide(a.x, b.x), times_wide(a.y, b.y)),
-        times_wide(a.z, b.z),
-    )
-}
-
-/// The determinant `a · (b × c)`. Components are at most [`VECTOR_LIMIT`] in absolute value.
-pub fn det(a: V3, b: V3, c: V3) -> i128
-    requires first { Within VECTOR_LIMIT a }
-    requires second { Within VECTOR_LIMIT b }
-    requires third { Within VECTOR_LIMIT c }
-    ensures { result ≡ determinant a b c }
-{
-    dot_wide(a, cross(b, c))
 }

@@ -19,14 +19,18 @@ pub const DIRECTION_LIMIT: u32 = 2_097_151;
 /// nothing.
 pub const HALVING_LIMIT: u8 = 20;
 
-// k times a.
-fn product(k: u32, a: i64) -> i64
-    requires few { k ≤ 2 ^ SCALE_LIMIT }
-    requires near { AtMost BOX_LIMIT a }
-    ensures value { result ≡ pos k *ℤ a }
-    ensures bound { AtMost (k * BOX_LIMIT) result }
+/// The place at the fraction `j / 2^k` of the straight way from `x0` to `x1`, times `2^k`: in grid units where k is 0,
+/// in 1/256 grid unit where k is 8. Both ends are in the box; k is at most
+/// [`SCALE_LIMIT`] and j at most `2^k`.
+pub fn at_scale(x0: V3, x1: V3, j: u32, k: u8) -> V3
+    requires depth { k ≤ SCALE_LIMIT }
+    requires within { j ≤ 2 ^ k }
+    requires start { Within BOX_LIMIT x0 }
+    requires end { Within BOX_LIMIT x1 }
+    ensures value { result ≡ between j (2 ^ k) x0 x1 }
+    ensures bound { Within FINE_LIMIT result }
 {
-    k as i64 * a
+    sum_of(multiple(power(k) - j, x0), multiple(j, x1))
 }
 
 // k times the vector.
@@ -43,12 +47,23 @@ fn multiple(k: u32, a: V3) -> V3
     }
 }
 
-fn plus(a: i64, b: i64) -> i64
-    requires left { AtMost FINE_LIMIT a }
-    requires right { AtMost FINE_LIMIT b }
-    ensures { result ≡ a +ℤ b }
+// k times a.
+fn product(k: u32, a: i64) -> i64
+    requires few { k ≤ 2 ^ SCALE_LIMIT }
+    requires near { AtMost BOX_LIMIT a }
+    ensures value { result ≡ pos k *ℤ a }
+    ensures bound { AtMost (k * BOX_LIMIT) result }
 {
-    a + b
+    k as i64 * a
+}
+
+// 2^k.
+fn power(k: u8) -> u32
+    requires { k ≤ SCALE_LIMIT }
+    ensures value { result ≡ 2 ^ k }
+    ensures few { result ≤ 2 ^ SCALE_LIMIT }
+{
+    1 << k
 }
 
 // The sum of two vectors.
@@ -64,34 +79,12 @@ pub(crate) fn sum_of(a: V3, b: V3) -> V3
     }
 }
 
-// 2^k.
-fn power(k: u8) -> u32
-    requires { k ≤ SCALE_LIMIT }
-    ensures value { result ≡ 2 ^ k }
-    ensures few { result ≤ 2 ^ SCALE_LIMIT }
+fn plus(a: i64, b: i64) -> i64
+    requires left { AtMost FINE_LIMIT a }
+    requires right { AtMost FINE_LIMIT b }
+    ensures { result ≡ a +ℤ b }
 {
-    1 << k
-}
-
-/// The place at the fraction `j / 2^k` of the straight way from `x0` to `x1`, times `2^k`: in grid units where k is 0,
-/// in 1/256 grid unit where k is 8. Both ends are in the box; k is at most
-/// [`SCALE_LIMIT`] and j at most `2^k`.
-pub fn at_scale(x0: V3, x1: V3, j: u32, k: u8) -> V3
-    requires depth { k ≤ SCALE_LIMIT }
-    requires within { j ≤ 2 ^ k }
-    requires start { Within BOX_LIMIT x0 }
-    requires end { Within BOX_LIMIT x1 }
-    ensures value { result ≡ between j (2 ^ k) x0 x1 }
-    ensures bound { Within FINE_LIMIT result }
-{
-    sum_of(multiple(power(k) - j, x0), multiple(j, x1))
-}
-
-fn cut(a: i64, half: u8) -> i64
-    requires { half ≤ HALVING_LIMIT }
-    ensures { result ≡ int_div a (pos (2 ^ half)) }
-{
-    a / (1 << half)
+    a + b
 }
 
 /// The direction, divided by 2 so many times, at most [`HALVING_LIMIT`]; each component is cut towards zero.
@@ -104,4 +97,11 @@ pub fn halved(d: V3, half: u8) -> V3
         y: cut(d.y, half),
         z: cut(d.z, half),
     }
+}
+
+fn cut(a: i64, half: u8) -> i64
+    requires { half ≤ HALVING_LIMIT }
+    ensures { result ≡ int_div a (pos (2 ^ half)) }
+{
+    a / (1 << half)
 }
