@@ -1,15 +1,12 @@
 -- The corners of a part, by their positions.
-use Rattle.std.proofs.Common.{◌≡◌, ◌∙◌, ℕ, ◌<◌, ◌≤◌, ◌^◌, List, length, map, take, get_or, min, sym, arith}
+use Rattle.std.proofs.Common.{◌≡◌, ◌∙◌, ℕ, ◌<◌, ◌≤◌, ◌^◌, length, take, get_or, min, sym, arith}
 use Rattle.std.specs.List.{zip}
-use Rattle.std.specs.Prelude.{All}
 use Rattle.std.proofs.lemmas.List.{get_or-map, get_or-take, length-take, length-map}
 use Rattle.std.proofs.lemmas.Slice.Zip.{get_or-zip, length-zip}
-use Rattle.space3.specs.declared.vectors.V3.{V3}
 use Rattle.space3.specs.declared.spots.Part.{Part}
 use Rattle.space3.specs.Spots.{points}
 use Rattle.space3.specs.Vectors.{origin, Within}
 use Rattle.list_laws.proofs.Elements.{All-take_at}
-use Rattle.safe_motion.specs.declared.motion.Move.{Move}
 use Rattle.pair_cert.specs.Calls.Moves.{IsNear}
 use Rattle.pair_cert.specs.Parts.{StaysInTheBox, move_between, moves_of, still}
 

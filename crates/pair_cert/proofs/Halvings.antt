@@ -1,6 +1,5 @@
 -- The relative moves in the halves of an interval.
-use Rattle.std.proofs.Common.{◌≡◌, ◌∙◌, ℕ, ◌+◌, ◌*◌, ℤ, pos, ◌+ℤ◌, ◌-ℤ◌, ◌*ℤ◌, List, [], ◌∷◌, map, refl, sym, subst, ap, arith}
-use Rattle.space3.specs.declared.vectors.V3.{V3}
+use Rattle.std.proofs.Common.{◌≡◌, ℕ, ◌+◌, ◌*◌, ℤ, pos, ◌+ℤ◌, ◌-ℤ◌, ◌*ℤ◌, List, [], ◌∷◌, map, refl, sym, subst, arith}
 use Rattle.space3.specs.Vectors.{vector, multiple, sum_of}
 use Rattle.whole_laws.proofs.Ring.{ring, v, num, ◌⊕◌, ◌⊖◌, ◌⊗◌}
 use Rattle.safe_motion.specs.declared.motion.Move.{Move}

@@ -1,5 +1,5 @@
 -- The boxes over the start and the end of a part.
-use Rattle.std.proofs.Common.{◌≡◌, ◌∙◌, ℕ, ◌<◌, List, [], ◌∷◌, ◌++◌, length, length-append, map, refl, sym, subst, arith}
+use Rattle.std.proofs.Common.{◌≡◌, ◌∙◌, ◌<◌, List, [], ◌∷◌, ◌++◌, length, length-append, map, refl, sym, subst, arith}
 use Rattle.std.specs.List.{zip}
 use Rattle.std.specs.Prelude.{IsTrue, ◌↔◌}
 use Rattle.space3.specs.declared.vectors.V3.{V3}

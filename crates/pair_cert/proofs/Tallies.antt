@@ -1,5 +1,5 @@
 -- Counts of plane decisions that follow one another.
-use Rattle.std.proofs.Common.{◌≡◌, ℕ, zero, suc, ◌+◌, ◌-◌, ◌*◌, ◌^◌, ◌<◌, ◌≤◌, min, sym, subst, arith, lit<, pow-suc}
+use Rattle.std.proofs.Common.{◌≡◌, ℕ, suc, ◌+◌, ◌-◌, ◌*◌, ◌^◌, ◌<◌, ◌≤◌, min, subst, arith, lit<, pow-suc}
 use Rattle.std.proofs.Math.Nat.{one-le-pow}
 use Rattle.pair_cert.specs.Tallies.{RisesAtMost, intervals_within}
 

@@ -1,3 +1,4 @@
 -- Words that only private calls cite.
-pub mod Moves
 pub mod Halves
+pub mod Moves
+pub mod RelativeMoves

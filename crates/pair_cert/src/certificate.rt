@@ -8,14 +8,14 @@ ghost use Rattle.safe_motion.specs.Certificates.{ByHalves, IsServed, PairCertifi
 ghost use Rattle.safe_motion.specs.Meeting.{MeetAt};
 ghost use Rattle.safe_motion.specs.Moments.{IsFraction};
 ghost use Rattle.pair_cert.specs.Calls.Moves.{HasRoom, moves_within};
-ghost use Rattle.pair_cert.specs.Calls.Halves.{moves_in};
+ghost use Rattle.pair_cert.specs.Calls.RelativeMoves.{moves_in};
 ghost use Rattle.pair_cert.specs.Parts.{StaysInTheBox, moves_of};
 ghost use Rattle.pair_cert.specs.Tallies.{RisesAtMost, intervals_within};
 
 use crate::halves::half_moves;
 use crate::moves::{Half, RelativeMoves};
 use crate::planes::{has_plane_throughout, is_plane_guessed};
-use crate::relative::relative_moves;
+use crate::relative_moves::relative_moves;
 use crate::swept_boxes::do_swept_boxes_touch;
 use plane_cut::{FIRST_LIMIT, Tally};
 use safe_motion::DEPTH;
@@ -35,6 +35,7 @@ pub fn certify_pair(a: &Part, b: &Part, tally: &mut Tally) -> bool
     ensures tally { RisesAtMost (intervals_within DEPTH) tally.old.n tally.new.n }
     ensures untouched { ¬ SweptBoxesTouch (moves_of a.now) (moves_of b.now) → tally.new.n ≡ tally.old.n }
 {
+    // Once it is read, the count is known to be one of its type.
     let _count = tally.n;
     let moves = relative_moves(a, b);
     if is_plane_guessed(&moves) {

@@ -3,7 +3,8 @@ ghost use Rattle.std.specs.Prelude.{◌≡◌, ◌^◌, ◌<◌, ◌≤◌, pos,
 ghost use Rattle.space3.specs.Vectors.{AtMost, Within, multiple, sum_of};
 ghost use Rattle.plane_cut.specs.declared.planes.TheConstants.{COMPONENT_LIMIT};
 ghost use Rattle.pair_cert.specs.Calls.Moves.{HasRoom};
-ghost use Rattle.pair_cert.specs.Calls.Halves.{half_of, moves_in};
+ghost use Rattle.pair_cert.specs.Calls.Halves.{half_of};
+ghost use Rattle.pair_cert.specs.Calls.RelativeMoves.{moves_in};
 
 use crate::moves::{Half, RelativeMoves};
 use safe_motion::Move;

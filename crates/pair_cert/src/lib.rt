@@ -9,7 +9,7 @@ mod guesses;
 mod halves;
 mod moves;
 mod planes;
-mod relative;
+mod relative_moves;
 mod swept_boxes;
 
 pub use certificate::certify_pair;

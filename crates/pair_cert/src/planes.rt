@@ -5,7 +5,7 @@ ghost use Rattle.space3.specs.declared.vectors.TheConstants.{VECTOR_LIMIT};
 ghost use Rattle.plane_cut.specs.declared.planes.TheConstants.{COMPONENT_LIMIT};
 ghost use Rattle.plane_cut.specs.Planes.{HasPlane};
 ghost use Rattle.pair_cert.specs.Calls.Moves.{IsAhead, IsShort, all_ends};
-ghost use Rattle.pair_cert.specs.Calls.Halves.{moves_in};
+ghost use Rattle.pair_cert.specs.Calls.RelativeMoves.{moves_in};
 ghost use Rattle.pair_cert.specs.Tallies.{RisesAtMost};
 
 use crate::guesses::{centre_difference, edge_count, normal, normal_count, perpendicular};
@@ -21,6 +21,7 @@ pub fn has_plane_throughout(moves: &RelativeMoves, tally: &mut Tally) -> bool
     ensures plane { IsTrue result ↔ HasPlane (all_ends (moves_in moves.now)) }
     ensures tally { RisesAtMost 1 tally.old.n tally.new.n }
 {
+    // Once it is read, the count is known to be one of its type.
     let _count = tally.n;
     if is_plane_guessed(moves) {
         return true;

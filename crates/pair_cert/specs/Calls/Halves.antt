@@ -1,13 +1,9 @@
--- What the values of private calls stand for.
-use Rattle.std.specs.Prelude.{pos, List, take}
+-- The halves of a move.
+use Rattle.std.specs.Prelude.{pos}
 use Rattle.space3.specs.Vectors.{multiple, sum_of}
 use Rattle.safe_motion.specs.declared.motion.Move.{Move}
-use Rattle.pair_cert.specs.declared.moves.RelativeMoves.{RelativeMoves}
 use Rattle.pair_cert.specs.declared.moves.Half.{Half}
 use Rattle.pair_cert.specs.declared.moves.Half.TheVariants.{First, Second}
-
-abbrev pub moves_in : RelativeMoves → List Move
-moves_in moves = take moves.count moves.at
 
 -- the first or the second half of a move, times 2
 abbrev pub half_of : Half → Move → Move

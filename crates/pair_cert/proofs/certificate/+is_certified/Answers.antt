@@ -4,7 +4,8 @@ use Rattle.safe_motion.specs.Certificates.{IsServed}
 use Rattle.safe_motion.proofs.SearchByHalves.{ends_early, ends_without, first_decides, second_decides}
 use Rattle.pair_cert.specs.declared.moves.Half.TheVariants.{First, Second}
 use Rattle.pair_cert.specs.Calls.Moves.{HasRoom}
-use Rattle.pair_cert.specs.Calls.Halves.{half_of, moves_in}
+use Rattle.pair_cert.specs.Calls.Halves.{half_of}
+use Rattle.pair_cert.specs.Calls.RelativeMoves.{moves_in}
 use Rattle.pair_cert.specs.Tallies.{RisesAtMost, intervals_within}
 use Rattle.pair_cert.proofs.Halvings.{moves-first_half, moves-second_half}
 use Rattle.pair_cert.proofs.Rooms.{halves_room, room_for_one, short_now}

@@ -1,4 +1,4 @@
-use Rattle.std.proofs.Common.{◌≡◌, ◌∙◌, refl, arith}
+use Rattle.std.proofs.Common.{◌∙◌, refl, arith}
 use Rattle.safe_motion.specs.declared.depth.TheConstants.{DEPTH}
 use Rattle.safe_motion.specs.Certificates.{IsServed}
 use Rattle.safe_motion.proofs.Certified.{certified_apart}
@@ -7,7 +7,7 @@ use Rattle.safe_motion.proofs.Halving.{halves_from_each, each_from_halves}
 use Rattle.safe_motion.proofs.BoxLemmas.{untouched_is_certified}
 use Rattle.pair_cert.specs.Parts.{moves_of}
 use Rattle.pair_cert.proofs.Halvings.{moves-whole}
-use Rattle.pair_cert.specs.Calls.Halves.{moves_in}
+use Rattle.pair_cert.specs.Calls.RelativeMoves.{moves_in}
 use Rattle.pair_cert.proofs.Rooms.{short_now}
 use Rattle.pair_cert.proofs.Searches.{untouched, whole_served}
 use Rattle.pair_cert.proofs.Tallies.{stays}

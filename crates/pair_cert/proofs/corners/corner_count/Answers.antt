@@ -1,4 +1,4 @@
-use Rattle.std.proofs.Common.{◌≡◌, ◌∙◌, min, length, sym}
+use Rattle.std.proofs.Common.{◌∙◌, min, length, sym}
 use Rattle.pair_cert.proofs.CornerMoves.{length-moves_of}
 use Rattle.pair_cert.proofs.corners.corner_count.Goals as goal
 

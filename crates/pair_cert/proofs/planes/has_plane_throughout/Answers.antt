@@ -1,7 +1,7 @@
 use Rattle.std.proofs.Common.{◌^◌, sym, subst, arith}
 use Rattle.std.specs.Prelude.{All}
 use Rattle.space3.specs.Vectors.{Within}
-use Rattle.pair_cert.specs.Calls.Halves.{moves_in}
+use Rattle.pair_cert.specs.Calls.RelativeMoves.{moves_in}
 use Rattle.pair_cert.proofs.Separations.{rows_within}
 use Rattle.pair_cert.proofs.Tallies.{stays}
 use Rattle.pair_cert.proofs.planes.has_plane_throughout.Goals as goal

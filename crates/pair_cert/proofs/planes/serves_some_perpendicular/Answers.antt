@@ -1,4 +1,4 @@
-use Rattle.pair_cert.specs.Calls.Halves.{moves_in}
+use Rattle.pair_cert.specs.Calls.RelativeMoves.{moves_in}
 use Rattle.pair_cert.proofs.Separations.{plane_of_ends}
 use Rattle.pair_cert.proofs.planes.serves_some_perpendicular.Goals as goal
 

@@ -1,4 +1,4 @@
-use Rattle.std.proofs.Common.{◌≡◌, ◌∙◌, sym, subst}
+use Rattle.std.proofs.Common.{◌∙◌, sym, subst}
 use Rattle.std.specs.Prelude.{Bool, IsTrue, ◌↔◌}
 use Rattle.space3.specs.Boxes.{are_within}
 use Rattle.safe_motion.specs.SweptBoxes.{SweptBoxesTouch, both_ends}

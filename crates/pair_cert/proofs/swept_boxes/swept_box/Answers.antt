@@ -1,4 +1,4 @@
-use Rattle.std.proofs.Common.{◌≡◌, ◌∙◌, ◌<◌, length, arith}
+use Rattle.std.proofs.Common.{◌∙◌, arith}
 use Rattle.space3.specs.Boxes.{box_around, box_of}
 use Rattle.space3.specs.Spots.{points}
 use Rattle.pair_cert.proofs.SweptBoxes.{some_ends, swept-box}

@@ -5,7 +5,7 @@ use Rattle.pair_cert.specs.Calls.Moves.{HasRoom, moves_from, relative_move}
 use Rattle.pair_cert.specs.Parts.{moves_of, still}
 use Rattle.list_laws.proofs.Pushes.{all_more}
 use Rattle.list_laws.proofs.Writes.{put_image}
-use Rattle.pair_cert.proofs.relative.put_moves.Goals as goal
+use Rattle.pair_cert.proofs.relative_moves.put_moves.Goals as goal
 
 pub loop-j-preserved : goal.loop-j-preserved
 loop-j-preserved c =

@@ -3,7 +3,7 @@ use Rattle.safe_motion.specs.declared.depth.TheConstants.{DEPTH}
 use Rattle.pair_cert.specs.declared.moves.TheConstants.{MOVE_LIMIT}
 use Rattle.pair_cert.specs.Calls.Moves.{HasRoom, moves_from}
 use Rattle.pair_cert.specs.Parts.{moves_of}
-use Rattle.pair_cert.proofs.relative.put_moves.Given as goal
+use Rattle.pair_cert.proofs.relative_moves.put_moves.Given as goal
 
 abbrev pub invariant-loop-j : goal.invariant-loop-j
 invariant-loop-j l = record {

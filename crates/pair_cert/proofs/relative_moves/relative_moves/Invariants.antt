@@ -1,9 +1,9 @@
-use Rattle.std.proofs.Common.{◌≡◌, ◌*◌, ◌≤◌, All, take, length}
+use Rattle.std.proofs.Common.{◌≡◌, ◌*◌, ◌≤◌, All, take}
 use Rattle.space3.specs.declared.spots.TheConstants.{SPOT_LIMIT}
 use Rattle.safe_motion.specs.declared.depth.TheConstants.{DEPTH}
 use Rattle.pair_cert.specs.Calls.Moves.{HasRoom, relative_moves}
 use Rattle.pair_cert.specs.Parts.{moves_of}
-use Rattle.pair_cert.proofs.relative.relative_moves.Given as goal
+use Rattle.pair_cert.proofs.relative_moves.relative_moves.Given as goal
 
 abbrev pub invariant-loop-i : goal.invariant-loop-i
 invariant-loop-i l = record {

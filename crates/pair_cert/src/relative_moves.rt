@@ -5,7 +5,7 @@ ghost use Rattle.plane_cut.specs.declared.meeting.TheConstants.{FIRST_LIMIT};
 ghost use Rattle.safe_motion.specs.declared.depth.TheConstants.{DEPTH};
 ghost use Rattle.pair_cert.specs.declared.moves.TheConstants.{MOVE_LIMIT};
 ghost use Rattle.pair_cert.specs.Calls.Moves.{HasRoom, IsNear, moves_from, relative_move, relative_moves};
-ghost use Rattle.pair_cert.specs.Calls.Halves.{moves_in};
+ghost use Rattle.pair_cert.specs.Calls.RelativeMoves.{moves_in};
 ghost use Rattle.pair_cert.specs.Parts.{StaysInTheBox, moves_of};
 
 use crate::corners::{corner, corner_count};

@@ -1,8 +1,5 @@
-use Rattle.std.proofs.Common.{sym, subst}
-use Rattle.safe_motion.specs.declared.motion.Move.{Move}
-use Rattle.pair_cert.specs.Calls.Moves.{HasRoom}
 use Rattle.pair_cert.proofs.Rooms.{relative_room}
-use Rattle.pair_cert.proofs.relative.relative_move.Goals as goal
+use Rattle.pair_cert.proofs.relative_moves.relative_move.Goals as goal
 
 pub returns-clause-room : goal.returns-clause-room
 returns-clause-room c = rw (c.sub.ensures, c.sub-2.ensures) (relative_room c.args.x c.args.y c.requires.left c.requires.right)

@@ -3,7 +3,7 @@ use Rattle.std.specs.List.{flat_map}
 use Rattle.std.proofs.lemmas.List.{flat_map_more, take_all, take_more}
 use Rattle.pair_cert.specs.Calls.Moves.{moves_from, relative_moves}
 use Rattle.pair_cert.specs.Parts.{moves_of, still}
-use Rattle.pair_cert.proofs.relative.relative_moves.Goals as goal
+use Rattle.pair_cert.proofs.relative_moves.relative_moves.Goals as goal
 
 pub loop-i-preserved : goal.loop-i-preserved
 loop-i-preserved c =
