@@ -29,8 +29,8 @@ sorted-flat_map S R f [] s each across = sorted_nil R
 sorted-flat_map S R f (x ∷ xs) s each across =
     sorted-append R (f x) (flat_map f xs) (each x) (sorted-flat_map S R f xs (sorted_tail S x xs s) each across)
     (λ p q i j.
-      let r = Contains-from_flat_map f xs q j in
-      across x r.0 p q (All-contains (λ y. S x y ≡ Less) xs r.0 (first_before S x xs s) r.1) i r.2)
+    let r = Contains-from_flat_map f xs q j in
+    across x r.0 p q (All-contains (λ y. S x y ≡ Less) xs r.0 (first_before S x xs s) r.1) i r.2)
 
 -- and the images of one, where the map keeps the order
 pub sorted-map : {X K : Type 0} (S : X → X → Ordering) (R : K → K → Ordering) (f : X → K) (xs : List X) → ((x y : X) → S x y ≡ Less → R (f x) (f y) ≡ Less) → IsStrictlySortedBy S xs → IsStrictlySortedBy R (map f xs)

@@ -6,8 +6,6 @@
 #[cfg(test)]
 mod decimals;
 #[cfg(test)]
-mod shelves;
-#[cfg(test)]
 mod lines;
 #[cfg(test)]
 mod logarithms;
@@ -15,3 +13,5 @@ mod logarithms;
 mod meshes;
 #[cfg(test)]
 mod scenes;
+#[cfg(test)]
+mod shelves;
