@@ -11,8 +11,8 @@ refusal_of_both : {T U : Type 0} (step : Result T SceneErr) (then : T → Result
 refusal_of_both (Ok x) then later h = h x
 refusal_of_both (Err fault) then later h = refl
 
-pub refusal_of_keys : {S : Type 0} (keys : List (Reading S)) (members : Members) (s : S) → refusal (read_keys keys members s) ≡ first_refusal keys members
-refusal_of_keys [] members s = refl
-refusal_of_keys (reading ∷ more) members s =
-    refusal_of_both (reading.read (get_member reading.key.name members)) (λ value. read_keys more members (reading.put value s)) (first_refusal more members)
-    (λ value. refusal_of_keys more members (reading.put value s))
+pub refusal_of_keys : {S : Type 0} (keys : List (Reading S)) (ms : Members) (s : S) → refusal (read_keys keys ms s) ≡ first_refusal keys ms
+refusal_of_keys [] ms s = refl
+refusal_of_keys (reading ∷ more) ms s =
+    refusal_of_both (reading.read (get_member reading.key.name ms)) (λ value. read_keys more ms (reading.put value s)) (first_refusal more ms)
+    (λ value. refusal_of_keys more ms (reading.put value s))

@@ -11,7 +11,7 @@ use Rattle.space3.specs.Vectors.{AtMost, Within, origin}
 use Rattle.surface_mesh.specs.declared.materials.Material.{Material}
 use Rattle.whole_laws.specs.Ranges.{IsFrom}
 use Rattle.surface_mesh.specs.Materials.{IsMaterial}
-use Rattle.scene_toml.specs.declared.keys.TheConstants.{NAME_LENGTHS, FRAME_COUNTS, BUDGETS, TOLERANCES, GRAVITIES, CONTACT_DISTANCES, STIFFNESSES, DENSITIES, ZERO, FRAME_LIMIT, BUDGET_LIMIT, TOL_LIMIT, NAME_LIMIT}
+use Rattle.scene_toml.specs.declared.keys.TheConstants.{NAME_LENGTHS, FRAME_COUNTS, BUDGETS, TOLERANCES, GRAVITIES, CONTACT_DISTANCES, STIFFNESSES, DENSITIES, ZERO}
 use Rattle.scene_toml.specs.declared.keys.Section.{Section}
 use Rattle.scene_toml.specs.declared.keys.Section.TheVariants as sections
 use Rattle.scene_toml.specs.declared.refusal.SceneErr.{SceneErr}

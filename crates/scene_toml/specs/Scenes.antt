@@ -1,5 +1,5 @@
 -- The scene that a text means, or its first fault.
-use Rattle.std.specs.Prelude.{◌≡◌, List, length, ℕ, ◌^◌, ◌≤◌, pos, Option, Some, None, Result, Ok, Err}
+use Rattle.std.specs.Prelude.{◌≡◌, List, length, ℕ, ◌≤◌, pos, Option, Some, None, Result, Err}
 use Rattle.toml.specs.Data.{Members}
 use Rattle.whole_laws.specs.Ranges.{IsFrom}
 use Rattle.surface_mesh.specs.Materials.{AreNumbers}

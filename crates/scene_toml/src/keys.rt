@@ -8,6 +8,7 @@ ghost use Rattle.scene_toml.specs.Readings.{is_known};
 use crate::texts::KeyText;
 use std::alloc::{AllocError, Global};
 use std::marker::Model;
+use surface_mesh::{LEAST_DHAT, MOST_DENSITY, MOST_DHAT, MOST_GRAVITY, MOST_KAPPA};
 
 /// The longest name of a file in bytes: with a frame's number and ending it stays within what file systems take, 255.
 pub const NAME_LIMIT: usize = 200;
@@ -33,13 +34,13 @@ pub(crate) const BUDGETS: Range = Range(1, BUDGET_LIMIT as i64);
 
 pub(crate) const TOLERANCES: Range = Range(0, TOL_LIMIT);
 
-pub(crate) const GRAVITIES: Range = Range(-(1 << 20), 1 << 20);
+pub(crate) const GRAVITIES: Range = Range(-(MOST_GRAVITY as i64), MOST_GRAVITY as i64);
 
-pub(crate) const CONTACT_DISTANCES: Range = Range(2, 1024);
+pub(crate) const CONTACT_DISTANCES: Range = Range(LEAST_DHAT, MOST_DHAT);
 
-pub(crate) const STIFFNESSES: Range = Range(1, 1 << 40);
+pub(crate) const STIFFNESSES: Range = Range(1, MOST_KAPPA);
 
-pub(crate) const DENSITIES: Range = Range(1, 1024);
+pub(crate) const DENSITIES: Range = Range(1, MOST_DENSITY);
 
 /// What is 0 until another value has a meaning: decimal digits and moduli.
 pub(crate) const ZERO: Range = Range(0, 0);
