@@ -29,8 +29,8 @@ ways x y = by (node_order x y) refl
     by Greater e = inr (inr (is_total.antisymm y x ∙ ap ordering_reverse e))
 
 -- what isn't after another and differs is before it
-pub before : (x y : List ℕ) → is_lt (node_order y x) ≡ false → pointwise nat_eq y x ≡ false → node_order x y ≡ Less
-before x y h d =
+pub comes_before : (x y : List ℕ) → is_lt (node_order y x) ≡ false → pointwise nat_eq y x ≡ false → node_order x y ≡ Less
+comes_before x y h d =
     elim (ways x y) [
       | inl l ↦ l
       | inr r ↦ elim r [

@@ -19,7 +19,7 @@ use Rattle.boundary.specs.declared.pairs.Pair.{Pair}
 use Rattle.boundary.specs.declared.pairs.PairKind.{PairKind}
 use Rattle.boundary.specs.declared.pairs.PairKind.TheVariants.{VE, VT, EE, ET}
 use Rattle.boundary.specs.Calls.PairWalk.{pairs_after}
-use Rattle.boundary.specs.Pairs.{IsPair, counts, first_parts, kinds, pair_of, pair_order, pairs_of, pairs_of_kind, product, rank, second_parts}
+use Rattle.boundary.specs.Pairs.{IsPair, counts, first_parts, kinds, pair_of, pair_order, pairs_of, pairs_of_kind, all_pairs, rank, second_parts}
 use Rattle.boundary.specs.SortedLists.{IsSortedListOf}
 use Rattle.boundary.specs.Surface.{SurfaceLists}
 use Rattle.boundary.proofs.PairStands.{next_of_split, place_of_split, stands}
@@ -56,8 +56,8 @@ there n k h =
     let e : 0 + k ≡ k = omega arith in
     (k, omega (arith, length-range_with_len 0 n), get_or-range_with_len 0 n k k h ∙ e)
 
--- a pair of the product
-record InProduct (kind : PairKind) (firsts seconds : ℕ) (p : Pair) : Type 0 where
+-- a pair of a kind with both parts in range
+record InAllPairs (kind : PairKind) (firsts seconds : ℕ) (p : Pair) : Type 0 where
   kind_is : p.kind ≡ kind
   first : p.a < firsts
   second : p.b < seconds
@@ -67,8 +67,8 @@ of_row kind seconds a p h =
     let r = Contains-from_map (pair_of kind a) (range_with_len 0 seconds) p h in
     (r.0, below seconds r.0 r.1, r.2)
 
-of_product : (kind : PairKind) (firsts seconds : ℕ) (p : Pair) → Contains (product kind firsts seconds) p → InProduct kind firsts seconds p
-of_product kind firsts seconds p h =
+of_all_pairs : (kind : PairKind) (firsts seconds : ℕ) (p : Pair) → Contains (all_pairs kind firsts seconds) p → InAllPairs kind firsts seconds p
+of_all_pairs kind firsts seconds p h =
     let r = Contains-from_flat_map (λ a. map (pair_of kind a) (range_with_len 0 seconds)) (range_with_len 0 firsts) p h in
     let o = of_row kind seconds r.0 p r.2 in
     record {
@@ -77,13 +77,13 @@ of_product kind firsts seconds p h =
       second = subst (λ b. b < seconds) (ap (λ (q : Pair). q.b) o.2) o.1;
     }
 
-in_product : (p : Pair) (firsts seconds : ℕ) → p.a < firsts → p.b < seconds → Contains (product p.kind firsts seconds) p
-in_product p firsts seconds a b =
+in_all_pairs : (p : Pair) (firsts seconds : ℕ) → p.a < firsts → p.b < seconds → Contains (all_pairs p.kind firsts seconds) p
+in_all_pairs p firsts seconds a b =
     Contains-flat_map (λ k. map (pair_of p.kind k) (range_with_len 0 seconds)) (range_with_len 0 firsts) p.a p (there firsts p.a a)
     (Contains-map (pair_of p.kind p.a) (range_with_len 0 seconds) p.b (there seconds p.b b))
 
-product_sorted : (kind : PairKind) (firsts seconds : ℕ) → IsStrictlySortedBy pair_order (product kind firsts seconds)
-product_sorted kind firsts seconds =
+all_pairs_sorted : (kind : PairKind) (firsts seconds : ℕ) → IsStrictlySortedBy pair_order (all_pairs kind firsts seconds)
+all_pairs_sorted kind firsts seconds =
     sorted-flat_map nat_cmp pair_order (λ a. map (pair_of kind a) (range_with_len 0 seconds)) (range_with_len 0 firsts)
     (sorted-range_with_len 0 firsts)
     (λ a. sorted-map nat_cmp pair_order (pair_of kind a) (range_with_len 0 seconds) (λ b c h. by_second kind a b c h) (sorted-range_with_len 0 seconds))
@@ -92,12 +92,12 @@ product_sorted kind firsts seconds =
     let r = of_row kind seconds c q j in
     by_first kind a c p q h (sym (ap (λ (x : Pair). x.kind) o.2)) (sym (ap (λ (x : Pair). x.kind) r.2)) (sym (ap (λ (x : Pair). x.a) o.2)) (sym (ap (λ (x : Pair). x.a) r.2)))
 
-of_kind : (s : SurfaceLists) (kind : PairKind) (p : Pair) → Contains (pairs_of_kind s kind) p → InProduct kind (length (first_parts s kind)) (length (second_parts s kind)) p × (counts s p ≡ true)
+of_kind : (s : SurfaceLists) (kind : PairKind) (p : Pair) → Contains (pairs_of_kind s kind) p → InAllPairs kind (length (first_parts s kind)) (length (second_parts s kind)) p × (counts s p ≡ true)
 of_kind s kind p h =
     let m = length (first_parts s kind) in
     let n = length (second_parts s kind) in
-    let r = Contains-from_filter (counts s) (product kind m n) p h in
-    (of_product kind m n p r.0, r.1)
+    let r = Contains-from_filter (counts s) (all_pairs kind m n) p h in
+    (of_all_pairs kind m n p r.0, r.1)
 
 -- the kinds rise
 kinds_sorted : IsStrictlySortedBy (λ k l. nat_cmp (rank k) (rank l)) kinds
@@ -119,13 +119,13 @@ pub pairs_sorted : (s : SurfaceLists) → IsSortedListOf pair_order (IsPair s) (
 pairs_sorted s = record {
   sorted =
       sorted-flat_map (λ k l. nat_cmp (rank k) (rank l)) pair_order (pairs_of_kind s) kinds kinds_sorted
-      (λ kind. IsStrictlySortedBy-filter pair_order (counts s) (product kind (length (first_parts s kind)) (length (second_parts s kind))) (product_sorted kind (length (first_parts s kind)) (length (second_parts s kind))))
+      (λ kind. IsStrictlySortedBy-filter pair_order (counts s) (all_pairs kind (length (first_parts s kind)) (length (second_parts s kind))) (all_pairs_sorted kind (length (first_parts s kind)) (length (second_parts s kind))))
       (λ k l p q h i j. let a = of_kind s k p i in let b = of_kind s l q j in by_kind k l p q h a.0.kind_is b.0.kind_is);
   each = λ k d l. is_pair (get_or (pairs_of s) k d) (Contains-get_or (pairs_of s) k d l);
   all = λ p h.
       Contains-flat_map (pairs_of_kind s) kinds p.kind p (each_kind p.kind)
-      (Contains-filter (counts s) (product p.kind (length (first_parts s p.kind)) (length (second_parts s p.kind))) p h.counts_there
-      (in_product p (length (first_parts s p.kind)) (length (second_parts s p.kind)) h.first h.second));
+      (Contains-filter (counts s) (all_pairs p.kind (length (first_parts s p.kind)) (length (second_parts s p.kind))) p h.counts_there
+      (in_all_pairs p (length (first_parts s p.kind)) (length (second_parts s p.kind)) h.first h.second));
 }
   where
     is_pair : (p : Pair) → Contains (pairs_of s) p → IsPair s p

@@ -13,7 +13,7 @@ use Rattle.list_laws.proofs.StrictlySorted.{first_before, not_before_itself, sor
 use Rattle.boundary.specs.declared.faces.Face.{Face}
 use Rattle.boundary.specs.Calls.Groups.{first_corners, groups_of, put_before}
 use Rattle.boundary.specs.Faces.{corners_of, has_corners, node_order}
-use Rattle.boundary.proofs.Order.{before, differs, is_total, same_nodes, same_test}
+use Rattle.boundary.proofs.Order.{comes_before, differs, is_total, same_nodes, same_test}
 
 -- a group is all the faces that have its corners
 pub record IsGroup (faces : List Face) (group : List Face) : Type 0 where
@@ -109,7 +109,7 @@ put_before_groups f fs ((g ∷ gs) ∷ groups) up old =
           let kept_up : All (λ h. is_lt (node_order h.corners f.corners) ≡ false) (g ∷ gs) =
           All-same (λ h. is_lt (node_order h.corners f.corners) ≡ false) (g ∷ gs) (filter (has_corners g.corners) fs) head.whole
           (All-filter (has_corners g.corners) (λ h. is_lt (node_order h.corners f.corners) ≡ false) fs up) in
-          let less : node_order f.corners g.corners ≡ Less = before f.corners g.corners (All-head (λ h. is_lt (node_order h.corners f.corners) ≡ false) g gs kept_up) n in
+          let less : node_order f.corners g.corners ≡ Less = comes_before f.corners g.corners (All-head (λ h. is_lt (node_order h.corners f.corners) ≡ false) g gs kept_up) n in
           let later : All (λ c. node_order f.corners c ≡ Less) (g.corners ∷ map first_corners groups) =
           All-cons (λ c. node_order f.corners c ≡ Less) g.corners (map first_corners groups) less
           (All-weaker (λ c. node_order g.corners c ≡ Less) (λ c. node_order f.corners c ≡ Less) (λ c h. is_total.trans f.corners g.corners c less h) (map first_corners groups)

@@ -1,5 +1,5 @@
 -- The parts of a surface have one to three of its vertices.
-use Rattle.std.proofs.Common.{◌≡◌, ◌⊎◌, map, ℕ, ◌<◌, List, [], ◌∷◌, length, get_or, sym, subst, arith, inl, inr, lit<}
+use Rattle.std.proofs.Common.{◌≡◌, ap, refl, ◌⊎◌, ℕ, ◌<◌, List, [], ◌∷◌, length, get_or, sym, subst, arith, inl, inr, lit<}
 use Rattle.std.specs.Prelude.{slice_index}
 use Rattle.std.specs.List.{Contains, flat_map}
 use Rattle.std.proofs.lemmas.List.Elements.{All-cons, All-contains, All-nil, Contains-get_or}
@@ -63,46 +63,38 @@ triangle_part s triangle h there =
 in_same : {A : Type 0} (xs ys : List A) (i : ℕ) (d : A) → xs ≡ ys → i < length ys → Contains ys (get_or xs i d)
 in_same xs ys i d e l = subst (λ zs. Contains ys (get_or zs i d)) (sym e) (Contains-get_or ys i d l)
 
+-- a bound that is the same for both of two kinds holds for a kind that is one of them
+of_either : (count : PairKind → ℕ) (kind k l : PairKind) (a n : ℕ) → (kind ≡ k) ⊎ (kind ≡ l) → count k ≡ n → count l ≡ n → a < count kind → a < n
+of_either count kind k l a n either at_k at_l h =
+    elim either [
+      | inl e ↦ omega (arith, h, ap count e, at_k)
+      | inr e ↦ omega (arith, h, ap count e, at_l)
+    ]
+
 pub first_is_vertex : (s : SurfaceLists) (kind : PairKind) (vertices nodes : List ℕ) (a : ℕ) → (kind ≡ VE) ⊎ (kind ≡ VT) → a < length (first_parts s kind) → vertices ≡ s.vertices → nodes ≡ get_or vertices a 0 ∷ [] → IsPart s nodes
 first_is_vertex s kind vertices nodes a k h e is =
-    let long : a < length (map (λ v. v ∷ []) s.vertices) =
-    elim k [
-      | inl x ↦ subst (λ l. a < length (first_parts s l)) x h
-      | inr x ↦ subst (λ l. a < length (first_parts s l)) x h
-    ] in
+    let alone = length-map s.vertices (λ v. v ∷ []) in
+    let long = of_either (λ x. length (first_parts s x)) kind VE VT a (length s.vertices) k alone alone h in
     subst (IsPart s) (sym is)
     (record {
       some = omega arith;
       few = omega arith;
       vertices =
-          All-cons (Contains s.vertices) (get_or vertices a 0) []
-          (in_same vertices s.vertices a 0 e (omega (arith, long, length-map s.vertices (λ v. v ∷ []))))
+          All-cons (Contains s.vertices) (get_or vertices a 0) [] (in_same vertices s.vertices a 0 e long)
           (All-nil (Contains s.vertices));
     })
 
 pub first_is_edge : (s : SurfaceLists) (kind : PairKind) (edges : List (List ℕ)) (a : ℕ) → AreSurfaceLists s → (kind ≡ EE) ⊎ (kind ≡ ET) → a < length (first_parts s kind) → edges ≡ s.edges → IsPart s (get_or edges a [])
 first_is_edge s kind edges a lists k h e =
-    let long : a < length s.edges =
-    elim k [
-      | inl x ↦ subst (λ l. a < length (first_parts s l)) x h
-      | inr x ↦ subst (λ l. a < length (first_parts s l)) x h
-    ] in
+    let long = of_either (λ x. length (first_parts s x)) kind EE ET a (length s.edges) k refl refl h in
     edge_part s (get_or edges a []) lists (in_same edges s.edges a [] e long)
 
 pub second_is_edge : (s : SurfaceLists) (kind : PairKind) (edges : List (List ℕ)) (b : ℕ) → AreSurfaceLists s → (kind ≡ VE) ⊎ (kind ≡ EE) → b < length (second_parts s kind) → edges ≡ s.edges → IsPart s (get_or edges b [])
 second_is_edge s kind edges b lists k h e =
-    let long : b < length s.edges =
-    elim k [
-      | inl x ↦ subst (λ l. b < length (second_parts s l)) x h
-      | inr x ↦ subst (λ l. b < length (second_parts s l)) x h
-    ] in
+    let long = of_either (λ x. length (second_parts s x)) kind VE EE b (length s.edges) k refl refl h in
     edge_part s (get_or edges b []) lists (in_same edges s.edges b [] e long)
 
 pub second_is_triangle : (s : SurfaceLists) (kind : PairKind) (triangles : List (List ℕ)) (b : ℕ) → AreSurfaceLists s → (kind ≡ VT) ⊎ (kind ≡ ET) → b < length (second_parts s kind) → triangles ≡ s.triangles → IsPart s (get_or triangles b [])
 second_is_triangle s kind triangles b lists k h e =
-    let long : b < length s.triangles =
-    elim k [
-      | inl x ↦ subst (λ l. b < length (second_parts s l)) x h
-      | inr x ↦ subst (λ l. b < length (second_parts s l)) x h
-    ] in
+    let long = of_either (λ x. length (second_parts s x)) kind VT ET b (length s.triangles) k refl refl h in
     triangle_part s (get_or triangles b []) lists (in_same triangles s.triangles b [] e long)

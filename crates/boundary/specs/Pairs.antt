@@ -56,14 +56,14 @@ abbrev pub pair_of : PairKind → ℕ → ℕ → Pair
 pair_of kind a b = record { kind = kind; a = a; b = b }
 
 -- all pairs of a first and a second, by the first and then by the second
-abbrev pub product : PairKind → ℕ → ℕ → List Pair
-product kind firsts seconds =
+abbrev pub all_pairs : PairKind → ℕ → ℕ → List Pair
+all_pairs kind firsts seconds =
     flat_map (λ a. map (pair_of kind a) (range_with_len 0 seconds)) (range_with_len 0 firsts)
 
 -- the pairs of a kind that count
 abbrev pub pairs_of_kind : SurfaceLists → PairKind → List Pair
 pairs_of_kind s kind =
-    filter (counts s) (product kind (length (first_parts s kind)) (length (second_parts s kind)))
+    filter (counts s) (all_pairs kind (length (first_parts s kind)) (length (second_parts s kind)))
 
 -- the pair order: the pairs of all kinds, one kind after another
 abbrev pub pairs_of : SurfaceLists → List Pair
