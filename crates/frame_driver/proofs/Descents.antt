@@ -6,7 +6,6 @@ use Rattle.space3.specs.declared.vectors.V3.{V3}
 use Rattle.surface_mesh.specs.declared.setup.Setup.{Setup}
 use Rattle.potential_sum.specs.Terms.{FrameTerms}
 use Rattle.line_search.specs.declared.step.Step.{Step}
-use Rattle.line_search.specs.Upright.{IsPose}
 use Rattle.frame_driver.specs.declared.end.FrameEnd.{FrameEnd}
 use Rattle.frame_driver.specs.declared.end.FrameEnd.TheVariants as ends
 use Rattle.frame_driver.specs.Frames.{GoesOn, HasNoStep, IsAtRest, places_after}

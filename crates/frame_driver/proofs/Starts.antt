@@ -1,5 +1,5 @@
 -- What a simulation is at the start.
-use Rattle.std.proofs.Common.{◌≡◌, ◌∙◌, ℕ, ◌^◌, ◌≤◌, ◌&&◌, ℤ, pos, ◌-ℤ◌, ◌≤ℤ◌, ◌<ℤ◌, unsigned_abs, List, [], ◌∷◌, true, length, refl, ap, sym, subst, arith, lit≤}
+use Rattle.std.proofs.Common.{◌≡◌, ◌∙◌, ℕ, ◌≤◌, ◌&&◌, ℤ, pos, ◌-ℤ◌, ◌≤ℤ◌, ◌<ℤ◌, unsigned_abs, List, [], ◌∷◌, true, length, refl, ap, sym, subst, arith, lit≤}
 use Rattle.std.specs.Prelude.{All, IsTrue, nat_le}
 use Rattle.std.specs.List.{list_all, zip}
 use Rattle.std.specs.Cmp.Derive.{both_true}

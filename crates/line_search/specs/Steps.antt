@@ -1,5 +1,5 @@
 -- The step of a direction.
-use Rattle.std.specs.Prelude.{◌≡◌, ◌-◌, ◌^◌, List, length, All}
+use Rattle.std.specs.Prelude.{◌≡◌, List, length, All}
 use Rattle.space3.specs.declared.ways.TheConstants.{DIRECTION_LIMIT}
 use Rattle.space3.specs.declared.vectors.V3.{V3}
 use Rattle.space3.specs.Vectors.{Within}

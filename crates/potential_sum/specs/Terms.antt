@@ -1,5 +1,5 @@
 -- What the potential of a frame is made of beside its bodies.
-use Rattle.std.specs.Prelude.{◌≡◌, ◌^◌, List, map, zip, length, All}
+use Rattle.std.specs.Prelude.{◌≡◌, List, map, zip, length, All}
 use Rattle.space3.specs.declared.vectors.V3.{V3}
 use Rattle.space3.specs.Vectors.{Within}
 use Rattle.surface_mesh.specs.declared.setup.Setup.{Setup}

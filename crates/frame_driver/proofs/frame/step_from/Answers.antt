@@ -1,4 +1,4 @@
-use Rattle.std.proofs.Common.{◌∙◌, ◌-◌, ◌^◌, List, length, ap, sym, subst}
+use Rattle.std.proofs.Common.{◌∙◌, List, length, ap, sym, subst}
 use Rattle.std.specs.Prelude.{All, IfOk, IfSome, IfNone}
 use Rattle.space3.specs.declared.ways.TheConstants.{DIRECTION_LIMIT}
 use Rattle.space3.specs.declared.vectors.V3.{V3}

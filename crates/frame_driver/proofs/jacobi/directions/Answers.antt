@@ -1,4 +1,3 @@
-use Rattle.std.proofs.Common.{◌-◌, ◌^◌}
 use Rattle.space3.specs.declared.ways.TheConstants.{DIRECTION_LIMIT}
 use Rattle.space3.specs.Vectors.{Within}
 use Rattle.frame_driver.specs.Calls.Slopes.{direction_at}

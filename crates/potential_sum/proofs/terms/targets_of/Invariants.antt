@@ -1,4 +1,4 @@
-use Rattle.std.proofs.Common.{◌≡◌, ◌^◌, take}
+use Rattle.std.proofs.Common.{◌≡◌, take}
 use Rattle.std.specs.Prelude.{All}
 use Rattle.space3.specs.Vectors.{Within}
 use Rattle.potential_sum.specs.declared.terms.TheConstants.{FARTHEST_TARGET}
