@@ -1,0 +1,106 @@
+-- Two boxes that are near have a common cell, when the first one's corners are moved apart by the reach.
+use Rattle.std.proofs.Common.{◌≡◌, ◌∙◌, ℕ, ◌+◌, ◌-◌, ◌*◌, ◌/◌, ◌<◌, ◌≤◌, max, min, ℤ, pos, ◌+ℤ◌, ◌-ℤ◌, ◌≤ℤ◌, unsigned_abs, List, length, ap, arith}
+use Rattle.std.specs.Prelude.{IsTrue}
+use Rattle.std.specs.List.{range_with_len, All, Contains}
+use Rattle.std.proofs.lemmas.Bool.{and_parts}
+use Rattle.std.proofs.lemmas.Int.{ints}
+use Rattle.std.proofs.lemmas.Nat.{le-div, div-add-mod'}
+use Rattle.list_laws.proofs.Membership.{Contains-flat_map}
+use Rattle.space3.specs.Vectors.{AtMost, origin}
+use Rattle.space3.specs.Boxes.{are_within}
+use Rattle.space3.specs.declared.boxes.BoundingBox.{BoundingBox}
+use Rattle.space3.specs.declared.places.TheConstants.{BOX_LIMIT}
+use Rattle.space3.proofs.BoxLemmas.{gap_parts}
+use Rattle.box_grid.specs.declared.cells.Cells.{Cells}
+use Rattle.box_grid.specs.declared.entries.Entry.{Entry}
+use Rattle.box_grid.specs.declared.limits.TheConstants.{AXIS_LIMIT, LEAST_SIDE, REACH_LIMIT}
+use Rattle.box_grid.specs.Candidates.{LiesInTheBox}
+use Rattle.box_grid.specs.Calls.Cells.{box_at, cell_of, cells_over, entries_of, entries_of_boxes, entry, key_of, row_of}
+use Rattle.box_grid.proofs.CellRows.{entry_of_cell, in_range, key_along_row, row_of_cell}
+
+-- a division by a side doesn't turn the order
+div_keeps_order : (a b side : ℕ) → 0 < side → a ≤ b → a / side ≤ b / side
+div_keeps_order a b side s h = le-div (a / side) b side s (omega (arith, div-add-mod' a side))
+
+cell_keeps_order : (side : ℕ) (u v : ℤ) → 0 < side → pos 0 ≤ℤ (u +ℤ pos AXIS_LIMIT) → u ≤ℤ v → cell_of side u ≤ cell_of side v
+unfolding cell_of
+cell_keeps_order side u v s l h = div_keeps_order (unsigned_abs (u +ℤ pos AXIS_LIMIT)) (unsigned_abs (v +ℤ pos AXIS_LIMIT)) side s (abs_keeps_order (u +ℤ pos AXIS_LIMIT) (v +ℤ pos AXIS_LIMIT) l (omega (arith, ints)))
+  where
+    abs_keeps_order : (p q : ℤ) → pos 0 ≤ℤ p → p ≤ℤ q → unsigned_abs p ≤ unsigned_abs q
+    abs_keeps_order p q l h = omega (arith, ints)
+
+-- a position in both of two runs of positions
+record Common (a many_a b many_b : ℕ) : Type 0 where
+  cell : ℕ
+  from_a : a ≤ cell
+  below_a : cell < a + many_a
+  from_b : b ≤ cell
+  below_b : cell < b + many_b
+
+common : (la ha lb hb : ℕ) → la ≤ hb → lb ≤ ha → Common (min la ha) (max la ha - min la ha + 1) (min lb hb) (max lb hb - min lb hb + 1)
+common la ha lb hb c d = record { cell = max (min la ha) (min lb hb); from_a = omega arith; below_a = omega arith; from_b = omega arith; below_b = omega arith }
+
+not_negative : (z : ℤ) (reach : ℕ) → AtMost BOX_LIMIT z → reach ≤ REACH_LIMIT → pos 0 ≤ℤ ((z -ℤ pos reach) +ℤ pos AXIS_LIMIT)
+not_negative z reach h m = omega (arith, ints, h.bound)
+
+-- along an axis
+along : (side reach : ℕ) (al ag bl bg : ℤ) → 0 < side → reach ≤ REACH_LIMIT → AtMost BOX_LIMIT al → AtMost BOX_LIMIT bl → (bl -ℤ ag) ≤ℤ pos reach → (al -ℤ bg) ≤ℤ pos reach →
+    Common (min (cell_of side (al -ℤ pos reach)) (cell_of side (ag +ℤ pos reach))) (max (cell_of side (al -ℤ pos reach)) (cell_of side (ag +ℤ pos reach)) - min (cell_of side (al -ℤ pos reach)) (cell_of side (ag +ℤ pos reach)) + 1)
+    (min (cell_of side (bl -ℤ pos 0)) (cell_of side (bg +ℤ pos 0))) (max (cell_of side (bl -ℤ pos 0)) (cell_of side (bg +ℤ pos 0)) - min (cell_of side (bl -ℤ pos 0)) (cell_of side (bg +ℤ pos 0)) + 1)
+along side reach al ag bl bg s m a b far near =
+    common (cell_of side (al -ℤ pos reach)) (cell_of side (ag +ℤ pos reach)) (cell_of side (bl -ℤ pos 0)) (cell_of side (bg +ℤ pos 0))
+    (cell_keeps_order side (al -ℤ pos reach) (bg +ℤ pos 0) s (not_negative al reach a m) (lower al bg reach near))
+    (cell_keeps_order side (bl -ℤ pos 0) (ag +ℤ pos reach) s (not_negative bl 0 b (omega arith)) (upper bl ag reach far))
+  where
+    lower : (a b : ℤ) (reach : ℕ) → (a -ℤ b) ≤ℤ pos reach → (a -ℤ pos reach) ≤ℤ (b +ℤ pos 0)
+    lower a b reach h = omega (arith, ints)
+
+    upper : (b a : ℤ) (reach : ℕ) → (b -ℤ a) ≤ℤ pos reach → (b -ℤ pos 0) ≤ℤ (a +ℤ pos reach)
+    upper b a reach h = omega (arith, ints)
+
+-- an entry of the item in a row of the cells
+pub record EntryInRows (entries : List Entry) (c : Cells) (item : ℕ) : Type 0 where
+  pub row : ℕ
+  pub within : row < c.width * c.depth
+  pub key : ℕ
+  pub there : Contains entries (entry key item)
+  pub from : row_of c row ≤ key
+  pub below : key < row_of c row + c.height
+
+-- where two boxes' cells have a common one, the second has an entry in a row of the first
+entry_of_common_cell : (a b : Cells) (item : ℕ) → Common a.x a.width b.x b.width → Common a.y a.depth b.y b.depth → Common a.z a.height b.z b.height → EntryInRows (entries_of b item) a item
+entry_of_common_cell a b item cx cy cz =
+    let row = row_of_cell a cx.cell cy.cell cx.from_a cx.below_a cy.from_a cy.below_a in
+    let e : key_of cx.cell cy.cell a.z + (cz.cell - a.z) ≡ key_of cx.cell cy.cell cz.cell = key_along_row cx.cell cy.cell a.z (cz.cell - a.z) ∙ ap (key_of cx.cell cy.cell) (let on : a.z + (cz.cell - a.z) ≡ cz.cell = omega (arith, cz.from_a) in on) in
+    record {
+      row = row.0;
+      within = row.1;
+      key = key_of cx.cell cy.cell cz.cell;
+      there = entry_of_cell b item cx.cell cy.cell cz.cell cx.from_b cx.below_b cy.from_b cy.below_b cz.from_b cz.below_b;
+      from = omega (arith, row.2, e);
+      below = omega (arith, row.2, e, cz.below_a, cz.from_a);
+    }
+
+-- a box that is near has an entry in a row of the cells
+pub entry_of_near_box : (side reach : ℕ) (around : BoundingBox) (boxes : List BoundingBox) (item : ℕ) → LEAST_SIDE ≤ side → reach ≤ REACH_LIMIT → LiesInTheBox around → All LiesInTheBox boxes → item < length boxes → IsTrue (are_within reach around (box_at boxes item)) →
+    EntryInRows (entries_of_boxes side boxes) (cells_over side reach around) item
+entry_of_near_box side reach a boxes item s m h all below near =
+    let b = box_at boxes item in
+    let other : LiesInTheBox b = all item (record { least = origin; greatest = origin }) below in
+    let outer = and_parts _ _ near in
+    let inner = and_parts _ _ outer.0 in
+    let x = gap_parts reach a.least.x a.greatest.x b.least.x b.greatest.x inner.0 in
+    let y = gap_parts reach a.least.y a.greatest.y b.least.y b.greatest.y inner.1 in
+    let z = gap_parts reach a.least.z a.greatest.z b.least.z b.greatest.z outer.1 in
+    let f = entry_of_common_cell (cells_over side reach a) (cells_over side 0 b) item
+    (along side reach a.least.x a.greatest.x b.least.x b.greatest.x (omega arith) m h.least.x other.least.x x.0 x.1)
+    (along side reach a.least.y a.greatest.y b.least.y b.greatest.y (omega arith) m h.least.y other.least.y y.0 y.1)
+    (along side reach a.least.z a.greatest.z b.least.z b.greatest.z (omega arith) m h.least.z other.least.z z.0 z.1) in
+    record {
+      row = f.row;
+      within = f.within;
+      key = f.key;
+      there = Contains-flat_map (λ i. entries_of (cells_over side 0 (box_at boxes i)) i) (range_with_len 0 (length boxes)) item (entry f.key item) (in_range (length boxes) item below) f.there;
+      from = f.from;
+      below = f.below;
+    }

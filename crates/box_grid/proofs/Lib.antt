@@ -1,0 +1,6 @@
+pub mod AppendedLists
+pub mod CellRows
+pub mod CommonCells
+pub mod EntryParts
+pub mod SameFilter
+pub mod Service

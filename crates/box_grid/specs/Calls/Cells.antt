@@ -1,0 +1,105 @@
+-- The cells of a uniform grid, by rows along the third axis, and the entries of the cells that boxes cover.
+use Rattle.std.specs.Prelude.{ℕ, ◌+◌, ◌-◌, ◌*◌, ◌/◌, ◌%◌, ◌^◌, ◌<◌, ◌≤◌, ℤ, pos, ◌+ℤ◌, ◌-ℤ◌, List, length, map, max, min, unsigned_abs, All, slice_index_or}
+use Rattle.std.specs.List.{flat_map, range_with_len, Contains}
+use Rattle.std.specs.List.Sorted.{IsNonDecreasingBy, IsPermutation}
+use Rattle.space3.specs.declared.boxes.BoundingBox.{BoundingBox}
+use Rattle.space3.specs.declared.vectors.V3.{V3}
+use Rattle.space3.specs.Vectors.{origin, vector}
+use Rattle.box_grid.specs.declared.limits.TheConstants.{AXIS_LIMIT, LEAST_SIDE}
+use Rattle.box_grid.specs.declared.cells.Cell.{Cell}
+use Rattle.box_grid.specs.declared.cells.Cells.{Cells}
+use Rattle.box_grid.specs.declared.entries.Entry.{Entry}
+use Rattle.box_grid.specs.Candidates.{LiesInTheBox}
+
+-- the position of the cell of a component along its axis
+unfoldable pub cell_of : ℕ → ℤ → ℕ
+cell_of side v = unsigned_abs (v +ℤ pos AXIS_LIMIT) / side
+
+-- a number for each cell, one more for the next cell along the third axis
+unfoldable pub key_of : ℕ → ℕ → ℕ → ℕ
+key_of x y z = (x * AXIS_LIMIT + y) * AXIS_LIMIT + z
+
+-- the cell of a place
+abbrev pub cell_at : ℕ → V3 → Cell
+cell_at side v = record { x = cell_of side v.x; y = cell_of side v.y; z = cell_of side v.z }
+
+-- the place that is less, or more, by `reach` along each axis
+abbrev pub lowered : ℕ → V3 → V3
+lowered reach v = vector (v.x -ℤ pos reach) (v.y -ℤ pos reach) (v.z -ℤ pos reach)
+
+abbrev pub raised : ℕ → V3 → V3
+raised reach v = vector (v.x +ℤ pos reach) (v.y +ℤ pos reach) (v.z +ℤ pos reach)
+
+-- positions within the limit along each axis
+pub record IsCell (c : Cell) : Type 0 where
+  pub x : c.x < AXIS_LIMIT
+  pub y : c.y < AXIS_LIMIT
+  pub z : c.z < AXIS_LIMIT
+
+-- the cells from one of two cells to the other, whichever is the lesser
+abbrev pub cells_between : Cell → Cell → Cells
+cells_between a b = record {
+  x = min a.x b.x;
+  y = min a.y b.y;
+  z = min a.z b.z;
+  width = max a.x b.x - min a.x b.x + 1;
+  depth = max a.y b.y - min a.y b.y + 1;
+  height = max a.z b.z - min a.z b.z + 1;
+}
+
+-- the cells between those of a box's corners, moved apart by `reach`
+abbrev pub cells_over : ℕ → ℕ → BoundingBox → Cells
+cells_over side reach b =
+    cells_between (cell_at side (lowered reach b.least)) (cell_at side (raised reach b.greatest))
+
+-- cells within the limit, at least one
+pub record AreCells (c : Cells) : Type 0 where
+  pub x : c.x + c.width ≤ AXIS_LIMIT
+  pub y : c.y + c.depth ≤ AXIS_LIMIT
+  pub z : c.z + c.height ≤ AXIS_LIMIT
+  pub wide : 0 < c.width
+  pub deep : 0 < c.depth
+  pub high : 0 < c.height
+
+-- the key of the first cell of a row
+abbrev pub row_of : Cells → ℕ → ℕ
+row_of c r = key_of (c.x + r / c.depth) (c.y + r % c.depth) c.z
+
+abbrev pub entry : ℕ → ℕ → Entry
+entry key item = record { key = key; item = item }
+
+-- an entry for each of so many cells from a key on
+abbrev pub run_of : ℕ → ℕ → ℕ → List Entry
+run_of item first many = map (λ k. entry (first + k) item) (range_with_len 0 many)
+
+-- an entry for each of these cells
+abbrev pub entries_of : Cells → ℕ → List Entry
+entries_of c item =
+    flat_map (λ r. run_of item (row_of c r) c.height) (range_with_len 0 (c.width * c.depth))
+
+-- the box at a position
+abbrev pub box_at : List BoundingBox → ℕ → BoundingBox
+box_at boxes i = slice_index_or boxes i (record { least = origin; greatest = origin })
+
+-- an entry for each cell of each box
+abbrev pub entries_of_boxes : ℕ → List BoundingBox → List Entry
+entries_of_boxes side boxes =
+    flat_map (λ i. entries_of (cells_over side 0 (box_at boxes i)) i) (range_with_len 0 (length boxes))
+
+-- boxes in the box of places, and the entries of their cells by keys
+pub record IsGrid (side : ℕ) (boxes : List BoundingBox) (entries : List Entry) : Type 0 where
+  pub coarse : LEAST_SIDE ≤ side
+  pub few : length boxes < 2 ^ 32
+  pub in_box : All LiesInTheBox boxes
+  pub sorted : IsNonDecreasingBy (λ (e : Entry). e.key) entries
+  pub entered : IsPermutation (entries_of_boxes side boxes) entries
+
+-- the items of the entries in the first so many rows of these cells, and perhaps others of the entries
+pub record HasRows (entries : List Entry) (c : Cells) (rows : ℕ) (found : List ℕ) : Type 0 where
+  pub has : (r : ℕ) (e : Entry) → r < rows → Contains entries e → row_of c r ≤ e.key →
+      e.key < row_of c r + c.height → Contains found e.item
+  pub only : (n : ℕ) → All (λ (e : Entry). e.item < n) entries → All (λ i. i < n) found
+
+-- the items of the entries in all rows
+abbrev pub HasAllRows : List Entry → Cells → List ℕ → Type 0
+HasAllRows entries c found = HasRows entries c (c.width * c.depth) found

@@ -1,0 +1,84 @@
+//! Boxes that are sorted by the cells that they cover.
+ghost use Rattle.std.specs.Prelude.{◌≡◌, ◌<◌, ◌≤◌, ◌^◌, ℕ, Bool, List, IfOk, All, filter, length};
+ghost use Rattle.std.specs.List.{range_with_len};
+ghost use Rattle.space3.specs.declared.boxes.BoundingBox.{BoundingBox};
+ghost use Rattle.box_grid.specs.Candidates.{AreCandidates, LiesInTheBox, OnlyNearPass};
+
+use crate::cells::cells_over;
+use crate::entries::{Entry, entries_of_boxes, keep_ascending, write_items};
+use crate::limits::REACH_LIMIT;
+use crate::sizes::cell_side;
+use space3::BoundingBox;
+use std::alloc::{AllocError, Global};
+use std::marker::Model;
+
+/// Boxes in the box of places, and the cells that each covers.
+#[derive(Drop)]
+pub struct BoxGrid {
+    boxes: Vec<BoundingBox>,
+    side: u64,
+    entries: Vec<Entry>,
+}
+
+impl Model for BoxGrid {
+    ghost use Rattle.std.specs.Prelude.{List};
+    ghost use Rattle.space3.specs.declared.boxes.BoundingBox.{BoundingBox};
+    ghost use Rattle.box_grid.specs.Calls.Cells.{IsGrid};
+
+    ghost Value = { List BoundingBox };
+
+    ghost view = { λ g. g.boxes.items };
+
+    ghost invariant = { λ g. IsGrid g.side g.boxes.items g.entries.items };
+}
+
+impl BoxGrid {
+    /// The grid of these boxes. The reach is one that is often asked for: it guides the size of cells alone.
+    pub fn of_boxes(alloc: Global, boxes: Vec<BoundingBox>, reach: u32) -> Result<Self, AllocError>
+        requires few { length boxes.items < 2 ^ 32 }
+        requires in_box { All LiesInTheBox boxes.items }
+        ensures { IfOk result (λ grid. grid ≡ boxes.items) }
+    {
+        let side = cell_side(&boxes, reach);
+        let entries = entries_of_boxes(alloc, side, &boxes)?;
+        Ok(BoxGrid {
+            boxes,
+            side,
+            entries,
+        })
+    }
+
+    /// The boxes, in order.
+    pub fn boxes(&self) -> &[BoundingBox]
+        ensures boxes { result.now ≡ self.now }
+        ensures few { length self.now < 2 ^ 32 }
+        ensures in_box { All LiesInTheBox self.now }
+    {
+        self.boxes.as_slice()
+    }
+
+    /// Writes the candidates for boxes near `around` into `found`, which may hold anything before: positions of boxes,
+    /// ascending, among them of each box whose gap to `around` is at most `reach` grid units along each axis.
+    pub fn near(
+        &self,
+        reach: u32,
+        around: &BoundingBox,
+        found: &mut Vec<u32>,
+    ) -> Result<(), AllocError>
+        requires reach { reach ≤ REACH_LIMIT }
+        requires in_box { LiesInTheBox around.now }
+        ensures { IfOk result (λ _. AreCandidates reach around.now self.now found.new.items) }
+    {
+        let cells = cells_over(self.side, reach, around);
+        write_items(&self.entries, &cells, found)?;
+        keep_ascending(found);
+        Ok(())
+    }
+}
+
+/// A filter of the candidates keeps what it keeps of all positions, where it lets no other than near boxes pass.
+pub fn candidates_pass_as_all_positions()
+    ensures { (reach : ℕ) (around : BoundingBox) (boxes : List BoundingBox) (found : List ℕ) →
+        AreCandidates reach around boxes found → (p : ℕ → Bool) → OnlyNearPass reach around boxes p →
+        filter p found ≡ filter p (range_with_len 0 (length boxes)) }
+{}

@@ -1,0 +1,16 @@
+//! Limits of the reach and of cells.
+
+/// The greatest gap that is asked for, in grid units: 2^12. So a corner of the box of places that is moved by it keeps
+/// far from the borders of the cells.
+pub const REACH_LIMIT: u32 = 4096;
+
+/// Along each axis cells have positions below this, 2^21. It is added to the components of corners, which are smaller
+/// even where they are moved by the reach, so that none is negative; the sum is below 2^22, and a side is 2 at least.
+pub(crate) const AXIS_LIMIT: u32 = 2_097_152;
+
+/// The least side of a cell. With it the positions of cells stay below [`AXIS_LIMIT`].
+pub(crate) const LEAST_SIDE: u64 = 2;
+
+/// The longest side of all boxes is less than this many sides of a cell. So a box covers at most 9 cells along an axis,
+/// and few great boxes among many small ones make no flood of entries.
+pub(crate) const MOST_SPLIT: u64 = 8;
