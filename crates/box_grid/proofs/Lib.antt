@@ -4,3 +4,4 @@ pub mod CommonCells
 pub mod EntryParts
 pub mod SameFilter
 pub mod Service
+pub mod Sides

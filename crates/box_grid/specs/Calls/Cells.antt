@@ -103,3 +103,10 @@ pub record HasRows (entries : List Entry) (c : Cells) (rows : ℕ) (found : List
 -- the items of the entries in all rows
 abbrev pub HasAllRows : List Entry → Cells → List ℕ → Type 0
 HasAllRows entries c found = HasRows entries c (c.width * c.depth) found
+
+-- how far apart the corners of a box are along an axis
+abbrev pub side_along : (V3 → ℤ) → BoundingBox → ℕ
+side_along axis b = unsigned_abs (axis b.greatest -ℤ axis b.least)
+
+abbrev pub longest_side : BoundingBox → ℕ
+longest_side b = max (max (side_along (λ p. p.x) b) (side_along (λ p. p.y) b)) (side_along (λ p. p.z) b)
