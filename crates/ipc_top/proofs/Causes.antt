@@ -8,7 +8,7 @@ use Rattle.frame_driver.specs.Frames.{Frame}
 use Rattle.ipc_top.specs.declared.acts.Stop.TheVariants as stops
 use Rattle.ipc_top.specs.declared.refusals.End.{End}
 use Rattle.ipc_top.specs.declared.refusals.End.TheVariants as ends
-use Rattle.ipc_top.specs.Acts.{Act, Take, Put, Say, World, Did, Stops}
+use Rattle.ipc_top.specs.Acts.{Take, Put, Say, World, Stops}
 use Rattle.ipc_top.specs.CallsFor.{CommandCallsFor, CallsFor, usage_plan}
 use Rattle.ipc_top.specs.Commands.{Command, command_of}
 use Rattle.ipc_top.specs.Ends.{IsOneOf, IsPlain, IsStatus, IsInput, EndsWhole, Closes, Ends, NoFault, Completes}
@@ -20,7 +20,7 @@ use Rattle.ipc_top.specs.Plans.{Plan}
 use Rattle.ipc_top.specs.Roles.{Role, Seen, everywhere}
 use Rattle.ipc_top.specs.Calls.Files.{Takes}
 use Rattle.ipc_top.specs.Calls.Plans.{Follows, FollowsOne, Obeys, status_of}
-use Rattle.ipc_top.proofs.EachPlan.{OfEach, each_plan}
+use Rattle.ipc_top.proofs.EachPlan.{each_plan}
 use Rattle.ipc_top.proofs.OnePlan.{only_plan}
 use Rattle.ipc_top.proofs.UprightPlans.{plans_upright}
 

@@ -1,26 +1,24 @@
 -- What holds of each plan that a command calls for.
-use Rattle.std.proofs.Common.{◌≡◌, ◌+◌, ℕ, refl, sym, subst, List, [], ◌∷◌, Option, Some, None}
+use Rattle.std.proofs.Common.{◌≡◌, ℕ, refl, sym, subst, List, [], ◌∷◌, Option, Some, None}
 use Rattle.std.specs.FinMap.{get}
 use Rattle.surface_mesh.specs.declared.setup.Setup.{Setup}
 use Rattle.mesh_check.specs.Defects.{first_defect}
 use Rattle.frame_driver.specs.Frames.{Frame}
 use Rattle.surface_mesh.specs.Setup.{setup_of}
 use Rattle.space3.specs.declared.mesh.Mesh.{Mesh}
-use Rattle.scene_toml.specs.declared.scene.Scene.{Scene}
 use Rattle.ipc_top.specs.declared.mesh.TheConstants.{MESH_LIMIT}
 use Rattle.ipc_top.specs.declared.scene.TheConstants.{SCENE_LIMIT}
-use Rattle.ipc_top.specs.Acts.{Act, Take, Say}
+use Rattle.ipc_top.specs.Acts.{Act, Take}
 use Rattle.ipc_top.specs.CallsFor.{SceneMeans, JobCallsFor, CommandCallsFor}
 use Rattle.ipc_top.specs.Commands.{Command, Check, RunScene}
 use Rattle.ipc_top.specs.Files.{Outcome, Accepted, Refused, FileMeans, Continues, TakesFile}
 use Rattle.ipc_top.specs.Jobs.{Job, check_job, scene_job}
-use Rattle.ipc_top.specs.Lines.{mesh_refused_line, defect_line, scene_refused_line}
 use Rattle.ipc_top.specs.Meshes.{MeshMeans}
 use Rattle.ipc_top.specs.Moves.{Moves, AreFrames, first_start, motion_plan}
 use Rattle.ipc_top.specs.Plans.{Plan, plan_of, then_plan}
 use Rattle.ipc_top.specs.Roles as roles
 use Rattle.ipc_top.specs.Roles.{Seen}
-use Rattle.ipc_top.proofs.Outcomes.{file_refusal, mesh_refusal, scene_refusal, IsAccepted, accepted, file_accepted}
+use Rattle.ipc_top.proofs.Outcomes.{file_refusal, mesh_refusal, scene_refusal, file_accepted}
 use Rattle.ipc_top.proofs.Taking.{OnRefused}
 
 -- it holds of each refusal and of each motion, and stays where a file is taken first

@@ -1,5 +1,5 @@
 -- A motion is shown: its start, and then its frames.
-use Rattle.std.proofs.Common.{◌≡◌, ◌∙◌, ℕ, ℤ, List, [], ◌∷◌, ◌++◌, length, refl, ap, sym, subst, Bool, true, false, Result, Ok, Err, IsErrAnd, IfOk}
+use Rattle.std.proofs.Common.{◌≡◌, ◌∙◌, ℕ, ℤ, List, ◌∷◌, length, refl, ap, sym, subst, Bool, true, false, Result, Ok, Err, IsErrAnd}
 use Rattle.std.specs.Prelude.{if◌then◌else◌}
 use Rattle.surface_mesh.specs.declared.setup.Setup.{Setup}
 use Rattle.frame_driver.specs.Frames.{Frame}
@@ -15,7 +15,7 @@ use Rattle.ipc_top.specs.Lines.{accepted_line}
 use Rattle.ipc_top.specs.Moves.{AreFrames, Moves, first_start, acts_of_frames, motion_plan}
 use Rattle.ipc_top.specs.Plans.{Plan}
 use Rattle.ipc_top.specs.Calls.Frames.{AreNext, ShowsFrames}
-use Rattle.ipc_top.specs.Calls.Plans.{Follows, FollowsOne}
+use Rattle.ipc_top.specs.Calls.Plans.{FollowsOne}
 use Rattle.ipc_top.proofs.ActsDone.{did_after, did_nothing, stops_after, stops_before, nothing_done}
 use Rattle.ipc_top.proofs.FramesShown.{shows_stopped, frames_due, no_frames}
 use Rattle.ipc_top.proofs.OnePlan.{some_frames}

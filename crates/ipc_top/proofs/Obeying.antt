@@ -1,6 +1,5 @@
 -- How jobs and commands obey the words.
-use Rattle.std.proofs.Common.{◌≡◌, ◌+◌, ℕ, ℤ, refl, ap, sym, subst, ◌∙◌, List, [], ◌∷◌, Option, Some, None, Result, Ok, Err, IsErrAnd, IfSome, arith}
-use Rattle.std.specs.FinMap.{get}
+use Rattle.std.proofs.Common.{◌≡◌, ℕ, ℤ, refl, ap, sym, subst, List, [], ◌∷◌, Option, Some, None, Result, Ok, Err, IsErrAnd}
 use Rattle.shelf_io.specs.Shelf.{Files, IsIfTold}
 use Rattle.surface_mesh.specs.declared.setup.Setup.{Setup}
 use Rattle.surface_mesh.specs.declared.materials.Numbers.{Numbers}
@@ -8,11 +7,10 @@ use Rattle.scene_toml.specs.declared.scene.Scene.{Scene}
 use Rattle.ipc_top.specs.declared.mesh.TheConstants.{MESH_LIMIT}
 use Rattle.ipc_top.specs.declared.scene.TheConstants.{SCENE_LIMIT}
 use Rattle.ipc_top.specs.declared.refusals.End.{End}
-use Rattle.ipc_top.specs.declared.refusals.End.TheVariants as ends
-use Rattle.ipc_top.specs.Acts.{Take, World, Did}
+use Rattle.ipc_top.specs.Acts.{Take, World}
 use Rattle.ipc_top.specs.CallsFor.{SceneMeans, JobCallsFor, CommandCallsFor, CallsFor, usage_plan}
 use Rattle.ipc_top.specs.Commands.{Command, Check, RunScene, command_of}
-use Rattle.ipc_top.specs.Files.{Outcome, Accepted, Refused, FileMeans, Continues}
+use Rattle.ipc_top.specs.Files.{Outcome, FileMeans, Continues}
 use Rattle.ipc_top.specs.Jobs.{Job, check_numbers, check_job, scene_job}
 use Rattle.ipc_top.specs.Meshes.{MeshMeans}
 use Rattle.ipc_top.specs.Moves.{Moves, first_start}

@@ -5,13 +5,12 @@ use Rattle.surface_mesh.specs.declared.setup.Setup.{Setup}
 use Rattle.frame_driver.specs.Frames.{Frame}
 use Rattle.frame_driver.proofs.Existence.{path_from}
 use Rattle.frame_driver.proofs.OnePath.{one_path_from}
-use Rattle.scene_toml.specs.declared.scene.Scene.{Scene}
 use Rattle.ipc_top.specs.declared.mesh.TheConstants.{MESH_LIMIT}
 use Rattle.ipc_top.specs.declared.scene.TheConstants.{SCENE_LIMIT}
-use Rattle.ipc_top.specs.Acts.{Take, Say, IsDue}
+use Rattle.ipc_top.specs.Acts.{Take, IsDue}
 use Rattle.ipc_top.specs.CallsFor.{SceneMeans, JobCallsFor, CommandCallsFor, CallsFor}
 use Rattle.ipc_top.specs.Commands.{Command, Check, RunScene, command_of}
-use Rattle.ipc_top.specs.Files.{Outcome, Accepted, Refused, FileMeans, Continues, TakesFile}
+use Rattle.ipc_top.specs.Files.{Outcome, Accepted, Refused, Continues, TakesFile}
 use Rattle.ipc_top.specs.Jobs.{Job, check_job, scene_job}
 use Rattle.ipc_top.specs.Meshes.{MeshMeans}
 use Rattle.ipc_top.specs.Motions.{Start}
@@ -21,7 +20,7 @@ use Rattle.ipc_top.specs.Roles as roles
 use Rattle.ipc_top.specs.Roles.{Seen}
 use Rattle.ipc_top.specs.Calls.Files.{MayFollow}
 use Rattle.ipc_top.proofs.ActsDone.{due_first}
-use Rattle.ipc_top.proofs.Outcomes.{one_outcome, some_outcome, one_mesh_outcome, some_mesh, some_scene}
+use Rattle.ipc_top.proofs.Outcomes.{one_outcome, some_outcome, one_mesh_outcome, some_mesh}
 
 -- ---- one plan
 

@@ -1,5 +1,5 @@
 -- A plan that goes on after its first acts, or is stopped in them.
-use Rattle.std.proofs.Common.{◌≡◌, ℕ, List, [], ◌∷◌, ◌++◌, sym, subst, Result, Ok, Err, IsErrAnd}
+use Rattle.std.proofs.Common.{◌≡◌, ℕ, List, sym, subst, Result, Ok, Err, IsErrAnd}
 use Rattle.ipc_top.specs.declared.acts.Stop.{Stop}
 use Rattle.ipc_top.specs.declared.refusals.End.{End}
 use Rattle.ipc_top.specs.declared.refusals.End.TheVariants as ends

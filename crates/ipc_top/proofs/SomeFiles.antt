@@ -1,5 +1,5 @@
 -- Files that a plan is for: the told ones, or those with the one file that was taken.
-use Rattle.std.proofs.Common.{◌≡◌, ◌<◌, ℕ, zero, suc, refl, sym, subst, List, [], ◌∷◌, length, Option, Some, None, IfSome, IsSomeAnd, arith, lit<}
+use Rattle.std.proofs.Common.{◌≡◌, ◌<◌, ℕ, zero, suc, refl, subst, List, [], ◌∷◌, length, Option, Some, None, IfSome, arith, lit<}
 use Rattle.std.specs.Ordering.{nat_cmp}
 use Rattle.std.specs.Cmp.Lexicographic.{slice_cmp}
 use Rattle.std.specs.FinMap.{get, insert, empty, get-empty}

@@ -15,7 +15,7 @@ use Rattle.ipc_top.specs.Plans.{Plan, plan_of, then_plan}
 use Rattle.ipc_top.specs.Calls.Files.{IsTaken, MayFollow, Answers, Takes, LooksThrough, bytes_of}
 use Rattle.ipc_top.specs.Calls.Plans.{Follows}
 use Rattle.ipc_top.proofs.ActsDone.{did_after, did_same, did_nothing, nothing_done, due_first}
-use Rattle.ipc_top.proofs.PlansEnded.{follows_then, stops_plan, follows_end}
+use Rattle.ipc_top.proofs.PlansEnded.{follows_then, stops_plan}
 use Rattle.ipc_top.proofs.SomeFiles.{file_or, file_or-told, longer_than}
 
 -- ---- refusals of texts

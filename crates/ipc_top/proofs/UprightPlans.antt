@@ -17,7 +17,7 @@ use Rattle.frame_driver.proofs.UprightPaths.{path_upright}
 use Rattle.ipc_top.specs.CallsFor.{CallsFor, CommandCallsFor}
 use Rattle.ipc_top.specs.Commands.{Command, command_of}
 use Rattle.ipc_top.specs.Jobs.{Job}
-use Rattle.ipc_top.specs.Motions.{Motion, IsUprightThroughout}
+use Rattle.ipc_top.specs.Motions.{IsUprightThroughout}
 use Rattle.ipc_top.specs.Moves.{AreFrames, first_start}
 use Rattle.ipc_top.specs.Plans.{Plan}
 use Rattle.ipc_top.specs.Roles.{Seen}

@@ -1,5 +1,5 @@
 -- How a plan ends.
-use Rattle.std.specs.Prelude.{◌≡◌, ◌⊎◌, ◌==◌, ◌<◌, ℕ, List, [], ◌∷◌, not, Option, Some, None, IfSome, IsTrue}
+use Rattle.std.specs.Prelude.{◌≡◌, ◌⊎◌, ◌==◌, ℕ, List, [], ◌∷◌, not, Option, Some, None, IfSome, IsTrue}
 use Rattle.std.specs.List.{list_any}
 use Rattle.shelf_io.specs.Shelf.{Files, Rose}
 use Rattle.ipc_top.specs.declared.acts.Stop.TheVariants as stops

@@ -1,6 +1,4 @@
-use Rattle.std.proofs.Common.{◌≤◌, ◌<◌, ◌+◌, List, length, arith}
-use Rattle.frame_driver.specs.Frames.{Frame}
-use Rattle.ipc_top.specs.Calls.Frames.{AreNext}
+use Rattle.std.proofs.Common.{◌≤◌, ◌<◌, ◌+◌, length, arith}
 use Rattle.ipc_top.specs.Calls.Jobs.{job_of}
 use Rattle.ipc_top.proofs.FramesShown.{none_shown, frame_more, stopped_at, shows_stopped, all_shown}
 use Rattle.ipc_top.proofs.frames.show_frames.Goals as goal

@@ -1,7 +1,5 @@
-use Rattle.std.proofs.Common.{[], ◌∷◌, ◌≡◌, ◌∙◌, ap, subst, sym, List, ℕ, Err}
+use Rattle.std.proofs.Common.{[]}
 use Rattle.ipc_top.specs.Acts.{Say}
-use Rattle.ipc_top.specs.Plans.{plan_of}
-use Rattle.ipc_top.specs.Calls.Plans.{Follows}
 use Rattle.ipc_top.proofs.ActsDone.{nothing_done, due_first}
 use Rattle.ipc_top.proofs.refusals.refuse_if_made.Goals as goal
 

@@ -1,6 +1,5 @@
-use Rattle.std.proofs.Common.{arith, map, string_bytes, Some, Err, sym}
+use Rattle.std.proofs.Common.{arith, map, string_bytes, Err}
 use Rattle.ipc_top.specs.CallsFor.{usage_plan}
-use Rattle.ipc_top.specs.Commands.{Check, RunScene}
 use Rattle.ipc_top.proofs.Causes.{not_ten}
 use Rattle.ipc_top.proofs.Obeying.{words_obeyed, usage_obeyed}
 use Rattle.ipc_top.proofs.top.do_command.Goals as goal
