@@ -7,41 +7,22 @@ use crate::desk::{
 use std::alloc::Global;
 use std::test::Fail;
 
-// What a command does with a mesh and a scene, and one file that it leaves, or doesn't make. Texts are in pieces.
-#[derive(Clone, Copy)]
-struct Case<'a> {
-    words: &'a [&'a str],
-    mesh: &'a [&'a str],
-    scene: &'a [&'a str],
-    status: u8,
-    console: &'a [&'a str],
-    name: &'a str,
-    left: Option<&'a [&'a str]>,
-}
-
-// Whether the command ends as the case says.
-fn holds(alloc: Global, case: Case<'_>) -> Result<bool, Fail> {
-    let mut desk = Desk::new(alloc, case.mesh, case.scene)?;
-    desk.obey(case.words)?;
-    Ok(desk.says(case.status, case.console)? && desk.has(case.name, case.left)?)
+// What a command does with this mesh and this scene.
+fn obeyed(alloc: Global, words: &[&str], mesh: &[&str], scene: &[&str]) -> Result<Desk, Fail> {
+    let mut desk = Desk::new(alloc, mesh, scene)?;
+    desk.obey(words)?;
+    Ok(desk)
 }
 
 #[test]
 fn meshes_that_are_accepted(rt: HostRuntime) -> Result<(), Fail> {
     let loose = "$MeshFormat\n2.2 0 8\n$EndMeshFormat\n$Nodes\n4\n1  +0\t00 0\n\n";
-    let rest = "2 100 0 0\n3 0 100 0\n4 0 0 100\n";
-    let written = [HEAD, NODES, TAIL];
-    for mesh in [[HEAD, NODES, TAIL], [loose, rest, TAIL]] {
-        let case = Case {
-            words: &CHECK,
-            mesh: &mesh,
-            scene: &[],
-            status: 0,
-            console: &[ACCEPTED],
-            name: "o_0000.msh",
-            left: Some(&written),
-        };
-        assert!(rt; holds(rt.alloc(), case)?);
+    for head in [[HEAD, "1 0 0 0\n"], [loose, ""]] {
+        let [begin, first] = head;
+        let mesh = [begin, first, "2 100 0 0\n3 0 100 0\n4 0 0 100\n", TAIL];
+        let desk = obeyed(rt.alloc(), &CHECK, &mesh, &[])?;
+        assert!(rt; desk.says(0, &[ACCEPTED])?);
+        assert!(rt; desk.has("o_0000.msh", Some(&[HEAD, NODES, TAIL]))?);
     }
     Ok(())
 }
@@ -57,16 +38,9 @@ fn words_of_no_command(rt: HostRuntime) -> Result<(), Fail> {
         &["runs", "f.toml"],
     ];
     for words in lists {
-        let case = Case {
-            words,
-            mesh: &[HEAD, NODES, TAIL],
-            scene: &[],
-            status: 2,
-            console: &["usage: ipc check DIGITS MESH OUT | run SCENE\n"],
-            name: "o_0000.msh",
-            left: None,
-        };
-        assert!(rt; holds(rt.alloc(), case)?);
+        let desk = obeyed(rt.alloc(), words, &[HEAD, NODES, TAIL], &[])?;
+        assert!(rt; desk.says(2, &["usage: ipc check DIGITS MESH OUT | run SCENE\n"])?);
+        assert!(rt; desk.has("o_0000.msh", None)?);
     }
     Ok(())
 }
@@ -102,20 +76,11 @@ fn meshes_that_are_refused(rt: HostRuntime) -> Result<(), Fail> {
         ),
     ];
     for (second, fourth, status, line) in table {
-        for (words, name) in [
-            (CHECK.as_slice(), "o_0000.msh"),
-            (RUN.as_slice(), "fall_0000.msh"),
-        ] {
-            let case = Case {
-                words,
-                mesh: &[HEAD, "1 0 0 0\n", second, "3 0 100 0\n", fourth, tail],
-                scene: &[NAMES, FALL, MATERIAL],
-                status,
-                console: &[line],
-                name,
-                left: None,
-            };
-            assert!(rt; holds(rt.alloc(), case)?);
+        let mesh = [HEAD, "1 0 0 0\n", second, "3 0 100 0\n", fourth, tail];
+        for words in [CHECK.as_slice(), RUN.as_slice()] {
+            let desk = obeyed(rt.alloc(), words, &mesh, &[NAMES, FALL, MATERIAL])?;
+            assert!(rt; desk.says(status, &[line])?);
+            assert!(rt; desk.has("o_0000.msh", None)? && desk.has("fall_0000.msh", None)?);
         }
     }
     Ok(())
@@ -142,40 +107,29 @@ fn scenes_that_are_refused(rt: HostRuntime) -> Result<(), Fail> {
         ("kappa = 1\ntol = true\n", MATERIAL, "wrong type tol\n"),
     ];
     for (top, material, fault) in table {
-        let case = Case {
-            words: &RUN,
-            mesh: &[HEAD, NODES, TAIL],
-            scene: &[NAMES, rest, top, material],
-            status: 5,
-            console: &["scene refused: ", fault],
-            name: "fall_0000.msh",
-            left: None,
-        };
-        assert!(rt; holds(rt.alloc(), case)?);
+        let scene = [NAMES, rest, top, material];
+        let desk = obeyed(rt.alloc(), &RUN, &[HEAD, NODES, TAIL], &scene)?;
+        assert!(rt; desk.says(5, &["scene refused: ", fault])?);
+        assert!(rt; desk.has("fall_0000.msh", None)?);
     }
     Ok(())
 }
 
 #[test]
 fn three_frames_of_fall(rt: HostRuntime) -> Result<(), Fail> {
-    let table = [
+    let mesh = [HEAD, NODES, TAIL];
+    let desk = obeyed(rt.alloc(), &RUN, &mesh, &[NAMES, FALL, MATERIAL])?;
+    assert!(rt; desk.says(0, &LINES)?);
+    let frames = [
         ("fall_0000.msh", NODES),
         ("fall_0001.msh", NODES_1),
         ("fall_0002.msh", NODES_2),
         ("fall_0003.msh", NODES_3),
     ];
-    for (name, nodes) in table {
-        let case = Case {
-            words: &RUN,
-            mesh: &[HEAD, NODES, TAIL],
-            scene: &[NAMES, FALL, MATERIAL],
-            status: 0,
-            console: &LINES,
-            name,
-            left: Some(&[HEAD, nodes, TAIL]),
-        };
-        assert!(rt; holds(rt.alloc(), case)?);
+    for (name, nodes) in frames {
+        assert!(rt; desk.has(name, Some(&[HEAD, nodes, TAIL]))?);
     }
+    assert!(rt; desk.has("fall_0004.msh", None)?);
     Ok(())
 }
 
@@ -185,6 +139,7 @@ fn frames_that_do_not_converge(rt: HostRuntime) -> Result<(), Fail> {
     let low = "1 0 0 -1048573\n2 100 0 -1048573\n3 0 100 -1048573\n4 0 0 -1048473\n";
     let lower = "1 0 0 -1048575\n2 100 0 -1048575\n3 0 100 -1048575\n4 0 0 -1048475\n";
     let moved = "1 0 0 -1\n2 100 0 -1\n3 0 100 -1\n4 0 0 99\n";
+    let rest = "frames = 1\ntol = 0\ndhat = 2\nkappa = 1\n";
     let table = [
         (
             NODES,
@@ -200,17 +155,10 @@ fn frames_that_do_not_converge(rt: HostRuntime) -> Result<(), Fail> {
         ),
     ];
     for (nodes, keys, line, after) in table {
-        let rest = "frames = 1\ntol = 0\ndhat = 2\nkappa = 1\n";
-        let case = Case {
-            words: &RUN,
-            mesh: &[HEAD, nodes, TAIL],
-            scene: &[NAMES, rest, keys, MATERIAL],
-            status: 1,
-            console: &[ACCEPTED, line],
-            name: "fall_0001.msh",
-            left: Some(&[HEAD, after, TAIL]),
-        };
-        assert!(rt; holds(rt.alloc(), case)?);
+        let scene = [NAMES, rest, keys, MATERIAL];
+        let desk = obeyed(rt.alloc(), &RUN, &[HEAD, nodes, TAIL], &scene)?;
+        assert!(rt; desk.says(1, &[ACCEPTED, line])?);
+        assert!(rt; desk.has("fall_0001.msh", Some(&[HEAD, after, TAIL]))?);
     }
     Ok(())
 }

@@ -1,7 +1,7 @@
 //! A fault at each call in turn, in a run of three frames, and memory that is wanting.
 
 use crate::desk::{
-    Desk, FALL, HEAD, LINES, MATERIAL, NAMES, NODES, NODES_1, NODES_2, NODES_3, RUN, TAIL,
+    Desk, FALL, HEAD, LINES, MATERIAL, NAMES, NODES, NODES_1, NODES_2, NODES_3, RUN, TAIL, whole,
 };
 use std::alloc::Global;
 use std::test::Fail;
@@ -36,12 +36,10 @@ fn stops_at(
     left: Option<&[&str]>,
 ) -> Result<bool, Fail> {
     let desk = failing(alloc, call, 0)?;
-    let mut said = lines.to_vec(alloc)?;
-    for piece in ["write fault ", name, "\n"] {
-        said.push(piece)?;
-    }
+    let mut said = whole(alloc, lines)?;
+    said.push_str(&format!(in alloc; "write fault {name}\n")?)?;
     let told = desk.shelf.failed_name() == Some(name);
-    Ok(desk.says(4, &said)? && told && desk.has(name, left)?)
+    Ok(desk.says(4, &[said.as_str()])? && told && desk.has(name, left)?)
 }
 
 // The file isn't there, is empty, or is whole.
