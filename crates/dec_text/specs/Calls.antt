@@ -1,3 +1,3 @@
--- Words of private calls: a text as its parts, and a quotient of which little is known.
+-- Words of private calls: a text as its parts, and what is known of a quotient.
 pub mod Reader
 pub mod Quotient

@@ -20,7 +20,8 @@ snapped_place negative n d Nearest = place_in_box negative ((2 * n + d) / (2 * d
 -- The place of a decimal times 10 ^ digits. The size is snapped before it has its sign, so a half goes away from zero.
 abbrev pub place_on_grid : Option Decimal → ℕ → Snap → Result ℤ DecErr
 place_on_grid None digits snap = Err NotDecimal
-place_on_grid (Some d) digits snap = snapped_place d.negative (numerator d digits) (denominator d) snap
+place_on_grid (Some d) digits snap =
+    snapped_place d.negative (numerator d digits) (denominator d) snap
 
 -- the same of a text
 unfoldable pub grid_value : List ℕ → ℕ → Snap → Result ℤ DecErr
@@ -44,8 +45,10 @@ pub record IsPlaceOf (d : Decimal) (digits : ℕ) (snap : Snap) (place : ℤ) : 
 
 -- What an answer says of a text: the place of the decimal that it is, or why it has none.
 abbrev pub IsAnswer : List ℕ → ℕ → Snap → Result ℤ DecErr → Type 0
-IsAnswer text digits snap (Ok place) = (d : Decimal) × IsDecimal text d × IsPlaceOf d digits snap place
+IsAnswer text digits snap (Ok place) =
+    (d : Decimal) × IsDecimal text d × IsPlaceOf d digits snap place
 IsAnswer text digits snap (Err NotDecimal) = (d : Decimal) → ¬ IsDecimal text d
-IsAnswer text digits snap (Err OffGrid) = (d : Decimal) × IsDecimal text d × ((m : ℕ) → ¬ IsSizeOf d digits snap m)
+IsAnswer text digits snap (Err OffGrid) =
+    (d : Decimal) × IsDecimal text d × ((m : ℕ) → ¬ IsSizeOf d digits snap m)
 IsAnswer text digits snap (Err OutOfBox) =
     (d : Decimal) × IsDecimal text d × ((m : ℕ) × IsSizeOf d digits snap m × (GREATEST_SIZE < m))

@@ -38,7 +38,8 @@ impl<'a> Parts<'a> {
 
     pub fn is_decimal(&self) -> bool
         ensures { result ≡ (is_numeral (self.now.before.now ++ self.now.behind.now)
-            && (not self.now.has_exponent || is_numeral (without_leading_sign self.now.exponent.now))) }
+            && (not self.now.has_exponent
+            || is_numeral (without_leading_sign self.now.exponent.now))) }
     {
         let exponent = unsigned(self.exponent);
         let digits = !self.before.is_empty() || !self.behind.is_empty();

@@ -16,7 +16,8 @@ pub(crate) struct Quotient {
 pub(crate) fn quotient_of(whole: &[u8], fraction: &[u8], up: u128, down: u128) -> Quotient
     requires whole { AllDigits 10 whole.now }
     requires fraction { AllDigits 10 fraction.now }
-    ensures { IsQuotient (digits_value 10 (whole.now ++ fraction.now) * 10 ^ up) (10 ^ down) result }
+    ensures { IsQuotient (digits_value 10 (whole.now ++ fraction.now) * 10 ^ up)
+        (10 ^ down) result }
 {
     if up < down {
         lowered_quotient(whole, fraction, down - up)
@@ -115,7 +116,8 @@ fn number_of_pieces(front: &[u8], back: &[u8]) -> u64
 /// The number that the digits write behind those of `start`, or the greatest `u64`.
 pub(crate) fn number_behind(start: u64, digits: &[u8]) -> u64
     requires { AllDigits 10 digits.now }
-    ensures { result ≡ min (start * 10 ^ length digits.now + digits_value 10 digits.now) (2 ^ 64 - 1) }
+    ensures { result
+        ≡ min (start * 10 ^ length digits.now + digits_value 10 digits.now) (2 ^ 64 - 1) }
 {
     let mut value = start;
     for digit in digits {

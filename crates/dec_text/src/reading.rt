@@ -1,7 +1,7 @@
 //! Reading a decimal.
-ghost use Rattle.std.specs.Prelude.{◌≡◌, ℕ, ◌+◌, ◌-◌, ◌*◌, ◌/◌, ◌^◌, ◌<◌, ◌≤◌, ◌++◌, length, min, if◌then◌else◌, IfOk, unsigned_abs};
-ghost use Rattle.std.specs.Str.Parse.{AllDigits, digits_value};
-ghost use Rattle.dec_text.specs.Calls.Quotient.{IsQuotient};
+ghost use Rattle.std.specs.Prelude.{◌≡◌, ℕ, ◌+◌, ◌-◌, ◌^◌, ◌<◌, ◌≤◌, min, if◌then◌else◌, IfOk, unsigned_abs};
+ghost use Rattle.std.specs.Str.Parse.{AllDigits};
+ghost use Rattle.dec_text.specs.Calls.Quotient.{IsQuotient, IsScaled};
 ghost use Rattle.dec_text.specs.Grid.{place_in_box, snapped_place, grid_value, IsAnswer};
 
 use crate::parts::{Parts, is_minus_first, unsigned};
@@ -41,8 +41,7 @@ fn scaled_quotient(whole: &[u8], fraction: &[u8], digits: u8, negative: bool, si
     requires whole { AllDigits 10 whole.now }
     requires fraction { AllDigits 10 fraction.now }
     ensures { (e : ℕ) → size ≡ min e (2 ^ 64 - 1)
-        → IsQuotient (digits_value 10 (whole.now ++ fraction.now) * 10 ^ (digits + (if negative then 0 else e)))
-        (10 ^ (length fraction.now + (if negative then e else 0))) result }
+        → IsScaled whole.now fraction.now digits negative e result }
 {
     let (up, down) = (digits as u128, fraction.len() as u128);
     if negative {
@@ -53,7 +52,8 @@ fn scaled_quotient(whole: &[u8], fraction: &[u8], digits: u8, negative: bool, si
 }
 
 fn snapped_place(negative: bool, quotient: Quotient, snap: Snap) -> Result<i64, DecErr>
-    ensures { (n d : ℕ) → 0 < d → IsQuotient n d quotient → result ≡ snapped_place negative n d snap }
+    ensures { (n d : ℕ) → 0 < d → IsQuotient n d quotient
+        → result ≡ snapped_place negative n d snap }
 {
     match snap {
         Snap::Exact if quotient.has_rest => Err(DecErr::OffGrid),
