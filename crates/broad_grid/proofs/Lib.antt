@@ -1,0 +1,3 @@
+mod BoxesInTheBox
+mod PlacedParts
+mod RowsOfPairs

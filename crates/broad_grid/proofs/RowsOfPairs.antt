@@ -1,0 +1,187 @@
+-- The near pairs by their first parts are a filter of the pair order.
+use Rattle.std.proofs.Common.{◌≡◌, ◌∙◌, ℕ, ◌+◌, ◌<◌, Bool, true, false, ◌&&◌, cond, List, [], ◌∷◌, ◌++◌, map, take, length, get_or, ap, sym, refl, append_assoc}
+use Rattle.std.specs.List.{filter, flat_map, range_with_len}
+use Rattle.std.proofs.Math.ListN.{get_or-map}
+use Rattle.std.proofs.lemmas.Bool.{and_parts}
+use Rattle.std.proofs.lemmas.List.{flat_map_more, length-map, map-append, take_more}
+use Rattle.std.proofs.lemmas.List.Elements.{filter_more}
+use Rattle.std.proofs.lemmas.Option.{slice_get-get_or}
+use Rattle.list_laws.proofs.Filters.{filter-flat_map, filter-map}
+use Rattle.list_laws.proofs.Pushes.{flat_map_counted_more}
+use Rattle.space3.specs.declared.boxes.BoundingBox.{BoundingBox}
+use Rattle.space3.specs.declared.vectors.V3.{V3}
+use Rattle.space3.specs.Boxes.{are_within}
+use Rattle.space3.specs.Vectors.{origin}
+use Rattle.boundary.specs.declared.pairs.Pair.{Pair}
+use Rattle.boundary.specs.declared.pairs.PairKind.{PairKind}
+use Rattle.boundary.specs.declared.pairs.PairKind.TheVariants.{VE, VT, EE, ET}
+use Rattle.boundary.specs.Pairs.{all_pairs, counts, first_parts, kinds, pair_of, pairs_of_kind, second_parts}
+use Rattle.boundary.specs.Surface.{SurfaceLists}
+use Rattle.box_grid.specs.Candidates.{AreCandidates, OnlyNearPass}
+use Rattle.box_grid.specs.Calls.Cells.{box_at}
+use Rattle.box_grid.proofs.Service.{pass_as_all_positions}
+use Rattle.broad_grid.specs.declared.boxes.PartBoxes.{PartBoxes}
+use Rattle.broad_grid.specs.declared.near.FirstPart.{FirstPart}
+use Rattle.broad_grid.specs.NearPairs.{are_boxes_within, close_pairs_of, is_close}
+use Rattle.broad_grid.specs.PartBoxes.{part_box, swept_box}
+use Rattle.broad_grid.specs.Calls.Boxes.{HasBoxes, first_boxes, second_boxes}
+use Rattle.broad_grid.specs.Calls.Rows.{is_near, near_row, near_rows, near_rows_of_kinds}
+use Rattle.broad_grid.specs.Calls.Walk.{near_pairs_of}
+use Rattle.broad_grid.proofs.BoxesInTheBox.{around_itself}
+
+-- ---- filters
+and_true : (b : Bool) → (b && true) ≡ b
+and_true true = refl
+and_true false = refl
+
+and_false : (b : Bool) → (b && false) ≡ false
+and_false true = refl
+and_false false = refl
+
+-- a filter of a filter
+filter-filter : {A : Type 0} (p q : A → Bool) (xs : List A) → filter p (filter q xs) ≡ filter (λ x. p x && q x) xs
+filter-filter p q [] = refl
+filter-filter {A = A} p q (x ∷ xs) =
+    one (q x)
+    ∙ ap (λ (l : List A). cond (p x && q x) (x ∷ l) l) (filter-filter p q xs)
+  where
+    one : (b : Bool) → filter p (cond b (x ∷ filter q xs) (filter q xs)) ≡ cond (p x && b) (x ∷ filter p (filter q xs)) (filter p (filter q xs))
+    one true = sym (ap (λ t. cond t (x ∷ filter p (filter q xs)) (filter p (filter q xs))) (and_true (p x)))
+    one false = sym (ap (λ t. cond t (x ∷ filter p (filter q xs)) (filter p (filter q xs))) (and_false (p x)))
+
+none_pass : {A : Type 0} (xs : List A) → filter (λ x. false) xs ≡ []
+none_pass [] = refl
+none_pass (x ∷ xs) = none_pass xs
+
+joined_empty : {X A : Type 0} (xs : List X) → flat_map {X = X} {A = A} (λ x. []) xs ≡ []
+joined_empty [] = refl
+joined_empty (x ∷ xs) = joined_empty xs
+
+-- ---- a filter of the pairs of a kind, by first parts
+abbrev rows_that_pass : (Pair → Bool) → SurfaceLists → PairKind → List Pair
+rows_that_pass p s kind =
+    flat_map (λ a. map (pair_of kind a) (filter (λ b. p (pair_of kind a b) && counts s (pair_of kind a b)) (range_with_len 0 (length (second_parts s kind))))) (range_with_len 0 (length (first_parts s kind)))
+
+by_rows : (p : Pair → Bool) (s : SurfaceLists) (kind : PairKind) → filter p (pairs_of_kind s kind) ≡ rows_that_pass p s kind
+by_rows p s kind =
+    let m = length (first_parts s kind) in
+    let n = length (second_parts s kind) in
+    let both : Pair → Bool = λ q. p q && counts s q in
+    filter-filter p (counts s) (all_pairs kind m n)
+    ∙ filter-flat_map both (λ a. map (pair_of kind a) (range_with_len 0 n)) (range_with_len 0 m)
+    ∙ (λ i. flat_map (λ a. filter-map both (pair_of kind a) (range_with_len 0 n) i) (range_with_len 0 m))
+
+-- ---- the rows of boxes
+-- the boxes of parts, in place of their nodes
+rows_of_boxes : (reach : ℕ) (s : SurfaceLists) (x0 x1 : List V3) (kind : PairKind) (firsts seconds : List BoundingBox) → firsts ≡ map (swept_box x0 x1) (first_parts s kind) → seconds ≡ map (swept_box x0 x1) (second_parts s kind) →
+    near_rows reach s kind firsts seconds ≡ rows_that_pass (are_boxes_within reach s x0 x1) s kind
+rows_of_boxes reach s x0 x1 kind firsts seconds e f =
+    let sweep = swept_box x0 x1 in
+    let m : length firsts ≡ length (first_parts s kind) = ap length e ∙ length-map (first_parts s kind) sweep in
+    let n : length seconds ≡ length (second_parts s kind) = ap length f ∙ length-map (second_parts s kind) sweep in
+    let first : (a : ℕ) → box_at firsts a ≡ sweep (get_or (first_parts s kind) a []) = λ a. ap (λ l. box_at l a) e ∙ get_or-map sweep (first_parts s kind) a [] in
+    let second : (b : ℕ) → box_at seconds b ≡ sweep (get_or (second_parts s kind) b []) = λ b. ap (λ l. box_at l b) f ∙ get_or-map sweep (second_parts s kind) b [] in
+    λ i. flat_map (λ a. map (pair_of kind a) (filter (λ b. are_within reach (first a i) (second b i) && counts s (pair_of kind a b)) (range_with_len 0 (n i)))) (range_with_len 0 (m i))
+
+vertices_first : (s : SurfaceLists) (x0 x1 : List V3) (boxes : PartBoxes) → HasBoxes s x0 x1 boxes → boxes.vertices.items ≡ map (swept_box x0 x1) (map (λ vertex. vertex ∷ []) s.vertices)
+vertices_first s x0 x1 boxes h = h.vertices ∙ composed s.vertices
+  where
+    composed : (vs : List ℕ) → map (λ vertex. swept_box x0 x1 (vertex ∷ [])) vs ≡ map (swept_box x0 x1) (map (λ vertex. vertex ∷ []) vs)
+    composed [] = refl
+    composed (v ∷ vs) = ap (λ (l : List BoundingBox). swept_box x0 x1 (v ∷ []) ∷ l) (composed vs)
+
+firsts_are : (s : SurfaceLists) (x0 x1 : List V3) (boxes : PartBoxes) → HasBoxes s x0 x1 boxes → (kind : PairKind) → first_boxes boxes kind ≡ map (swept_box x0 x1) (first_parts s kind)
+firsts_are s x0 x1 boxes h VE = vertices_first s x0 x1 boxes h
+firsts_are s x0 x1 boxes h VT = vertices_first s x0 x1 boxes h
+firsts_are s x0 x1 boxes h EE = h.edges
+firsts_are s x0 x1 boxes h ET = h.edges
+
+seconds_are : (s : SurfaceLists) (x0 x1 : List V3) (boxes : PartBoxes) → HasBoxes s x0 x1 boxes → (kind : PairKind) → second_boxes boxes kind ≡ map (swept_box x0 x1) (second_parts s kind)
+seconds_are s x0 x1 boxes h VE = h.edges
+seconds_are s x0 x1 boxes h VT = h.triangles
+seconds_are s x0 x1 boxes h EE = h.edges
+seconds_are s x0 x1 boxes h ET = h.triangles
+
+pub rows_are_near_pairs : (reach : ℕ) (s : SurfaceLists) (x0 x1 : List V3) (boxes : PartBoxes) (ks : List PairKind) → HasBoxes s x0 x1 boxes → near_rows_of_kinds reach s boxes ks ≡ near_pairs_of reach s x0 x1 ks
+rows_are_near_pairs reach s x0 x1 boxes ks h =
+    let near = are_boxes_within reach s x0 x1 in
+    (λ i. flat_map (λ kind. rows_of_boxes reach s x0 x1 kind (first_boxes boxes kind) (second_boxes boxes kind) (firsts_are s x0 x1 boxes h kind) (seconds_are s x0 x1 boxes h kind) i) ks)
+    ∙ sym (λ i. flat_map (λ kind. by_rows near s kind i) ks)
+    ∙ sym (filter-flat_map near (pairs_of_kind s) ks)
+
+-- ---- close pairs
+no_close_rows : (m n : ℕ) (kind : PairKind) → flat_map (λ a. map (pair_of kind a) (filter (λ b. false) (range_with_len 0 n))) (range_with_len 0 m) ≡ []
+no_close_rows m n kind =
+    (λ i. flat_map (λ a. map (pair_of kind a) (none_pass (range_with_len 0 n) i)) (range_with_len 0 m))
+    ∙ joined_empty (range_with_len 0 m)
+
+-- a box that stays is its own swept box
+stays : (reach : ℕ) (x : List V3) (left right : List ℕ) → are_within reach (swept_box x x left) (swept_box x x right) ≡ are_within reach (part_box x left) (part_box x right)
+stays reach x left right = λ i. are_within reach (around_itself (part_box x left) i) (around_itself (part_box x right) i)
+
+pub close_as_near : (reach : ℕ) (s : SurfaceLists) (x : List V3) → near_pairs_of reach s x x (VT ∷ EE ∷ []) ≡ close_pairs_of reach s x
+close_as_near reach s x =
+    let near = are_boxes_within reach s x x in
+    let close = is_close reach s x in
+    let count : (kind : PairKind) → ℕ = λ kind. length (second_parts s kind) in
+    let none_of : (kind : PairKind) → rows_that_pass close s kind ≡ [] → filter close (pairs_of_kind s kind) ≡ [] = λ kind e. by_rows close s kind ∙ e in
+    let vertex_edge = none_of VE (no_close_rows (length (first_parts s VE)) (count VE) VE) in
+    let edge_triangle = none_of ET (no_close_rows (length (first_parts s ET)) (count ET) ET) in
+    let vertex_triangle : filter near (pairs_of_kind s VT) ≡ filter close (pairs_of_kind s VT) =
+    by_rows near s VT
+    ∙ (λ i. flat_map (λ a. map (pair_of VT a) (filter (λ b. stays reach x (get_or (first_parts s VT) a []) (get_or (second_parts s VT) b []) i && counts s (pair_of VT a b)) (range_with_len 0 (count VT)))) (range_with_len 0 (length (first_parts s VT))))
+    ∙ sym (by_rows close s VT) in
+    let edges : filter near (pairs_of_kind s EE) ≡ filter close (pairs_of_kind s EE) =
+    by_rows near s EE
+    ∙ (λ i. flat_map (λ a. map (pair_of EE a) (filter (λ b. stays reach x (get_or (first_parts s EE) a []) (get_or (second_parts s EE) b []) i && counts s (pair_of EE a b)) (range_with_len 0 (count EE)))) (range_with_len 0 (length (first_parts s EE))))
+    ∙ sym (by_rows close s EE) in
+    filter-flat_map near (pairs_of_kind s) (VT ∷ EE ∷ [])
+    ∙ (λ i. vertex_triangle i ++ (edges i ++ []))
+    ∙ (λ i. sym vertex_edge i ++ (filter close (pairs_of_kind s VT) ++ (filter close (pairs_of_kind s EE) ++ (sym edge_triangle i ++ []))))
+    ∙ sym (filter-flat_map close (pairs_of_kind s) kinds)
+
+-- ---- the walk
+-- the candidates that are near are all that are near
+pub row_of_candidates : (reach : ℕ) (s : SurfaceLists) (first : FirstPart) (grid boxes : List BoundingBox) (found list : List ℕ) → boxes ≡ grid → list ≡ found → AreCandidates reach first.around grid found →
+    map (pair_of first.kind first.a) (filter (is_near reach s first boxes) list) ≡ near_row reach s first grid
+row_of_candidates reach s first grid boxes found list e f c =
+    (λ i. map (pair_of first.kind first.a) (filter (is_near reach s first (e i)) (f i)))
+    ∙ ap (map (pair_of first.kind first.a)) (pass_as_all_positions reach first.around grid found c (is_near reach s first grid) only_near)
+  where
+    only_near : OnlyNearPass reach first.around grid (is_near reach s first grid)
+    only_near i l t = record {
+      box = box_at grid i;
+      stands = slice_get-get_or grid i (record { least = origin; greatest = origin }) l;
+      near = (and_parts _ _ t).0;
+    }
+
+-- one row more
+pub rows_more : (row : ℕ → List Pair) (a : ℕ) (start before after last : List Pair) → before ≡ start ++ flat_map row (range_with_len 0 a) → last ≡ row a → after ≡ before ++ last → after ≡ start ++ flat_map row (range_with_len 0 (a + 1))
+rows_more row a start before after last so_far is pushed =
+    pushed
+    ∙ (λ i. so_far i ++ is i)
+    ∙ append_assoc start (flat_map row (range_with_len 0 a)) (row a)
+    ∙ ap (λ l. start ++ l) (sym (flat_map_counted_more row a))
+
+-- the rows of one kind more
+pub kinds_more : (rows : PairKind → List Pair) (ks : List PairKind) (k : ℕ) (d : PairKind) (start before after last : List Pair) → k < length ks → before ≡ start ++ flat_map rows (take k ks) → last ≡ rows (get_or ks k d) → after ≡ before ++ last → after ≡ start ++ flat_map rows (take (k + 1) ks)
+kinds_more rows ks k d start before after last l so_far is pushed =
+    pushed
+    ∙ (λ i. so_far i ++ is i)
+    ∙ append_assoc start (flat_map rows (take k ks)) (rows (get_or ks k d))
+    ∙ ap (λ r. start ++ r) (flat_map_more rows [] (take k ks) (get_or ks k d) ∙ ap (flat_map rows) (sym (take_more ks k d l)))
+
+-- one candidate more
+pub near_more : (f : ℕ → Pair) (p : ℕ → Bool) (found : List ℕ) (k : ℕ) (start before after last : List Pair) → k < length found → before ≡ start ++ map f (filter p (take k found)) → last ≡ cond (p (get_or found k 0)) (f (get_or found k 0) ∷ []) [] → after ≡ before ++ last → after ≡ start ++ map f (filter p (take (k + 1) found))
+near_more f p found k start before after last l so_far is pushed =
+    let b = get_or found k 0 in
+    pushed
+    ∙ (λ i. so_far i ++ is i)
+    ∙ append_assoc start (map f (filter p (take k found))) (cond (p b) (f b ∷ []) [])
+    ∙ ap (λ r. start ++ (map f (filter p (take k found)) ++ r)) (image b (p b))
+    ∙ ap (λ r. start ++ r) (sym (map-append f (filter p (take k found)) (cond (p b) (b ∷ []) [])))
+    ∙ ap (λ r. start ++ map f r) (sym (filter_more p found k 0 l))
+  where
+    image : (b : ℕ) (t : Bool) → cond t (f b ∷ []) [] ≡ map f (cond t (b ∷ []) [])
+    image b true = refl
+    image b false = refl

@@ -1,0 +1,53 @@
+-- The near pairs by their first parts.
+use Rattle.std.specs.Prelude.{ℕ, ◌≡◌, ◌<◌, ◌^◌, Bool, ◌&&◌, List, All, length, map, filter}
+use Rattle.std.specs.List.{flat_map, range_with_len}
+use Rattle.space3.specs.declared.boxes.BoundingBox.{BoundingBox}
+use Rattle.space3.specs.Boxes.{are_within}
+use Rattle.boundary.specs.declared.pairs.Pair.{Pair}
+use Rattle.boundary.specs.declared.pairs.PairKind.{PairKind}
+use Rattle.boundary.specs.Pairs.{counts, first_parts, pair_of, second_parts}
+use Rattle.boundary.specs.Surface.{SurfaceLists}
+use Rattle.box_grid.specs.Candidates.{LiesInTheBox}
+use Rattle.box_grid.specs.Calls.Cells.{box_at}
+use Rattle.broad_grid.specs.declared.boxes.PartBoxes.{PartBoxes}
+use Rattle.broad_grid.specs.declared.near.FirstPart.{FirstPart}
+use Rattle.broad_grid.specs.Calls.Boxes.{first_boxes, second_boxes}
+
+-- a first part of its kind, with a box in the box of places
+pub record IsFirst (s : SurfaceLists) (first : FirstPart) : Type 0 where
+  pub there : first.a < length (first_parts s first.kind)
+  pub in_box : LiesInTheBox first.around
+
+-- one box for each first part of a kind
+pub record AreFirst (s : SurfaceLists) (kind : PairKind) (firsts : List BoundingBox) : Type 0 where
+  pub as_many : length firsts ≡ length (first_parts s kind)
+  pub few : length firsts < 2 ^ 32
+  pub in_box : All LiesInTheBox firsts
+
+-- one box for each part of each kind
+pub record HasAsMany (s : SurfaceLists) (boxes : PartBoxes) : Type 0 where
+  pub firsts : (kind : PairKind) → AreFirst s kind (first_boxes boxes kind)
+  pub seconds : (kind : PairKind) → length (second_boxes boxes kind) ≡ length (second_parts s kind)
+
+-- the box of the second part b is near that of the first part, and the pair counts
+abbrev pub is_near : ℕ → SurfaceLists → FirstPart → List BoundingBox → ℕ → Bool
+is_near reach s first boxes b =
+    are_within reach first.around (box_at boxes b) && counts s (pair_of first.kind first.a b)
+
+-- the near pairs of a first part
+abbrev pub near_row : ℕ → SurfaceLists → FirstPart → List BoundingBox → List Pair
+near_row reach s first boxes =
+    map (pair_of first.kind first.a) (filter (is_near reach s first boxes) (range_with_len 0 (length boxes)))
+
+abbrev pub first_part : PairKind → List BoundingBox → ℕ → FirstPart
+first_part kind firsts a = record { kind = kind; a = a; around = box_at firsts a }
+
+-- the near pairs of a kind
+abbrev pub near_rows : ℕ → SurfaceLists → PairKind → List BoundingBox → List BoundingBox → List Pair
+near_rows reach s kind firsts seconds =
+    flat_map (λ a. near_row reach s (first_part kind firsts a) seconds) (range_with_len 0 (length firsts))
+
+-- the near pairs of some kinds
+abbrev pub near_rows_of_kinds : ℕ → SurfaceLists → PartBoxes → List PairKind → List Pair
+near_rows_of_kinds reach s boxes kinds =
+    flat_map (λ kind. near_rows reach s kind (first_boxes boxes kind) (second_boxes boxes kind)) kinds

@@ -1,0 +1,13 @@
+//! The pairs of a surface's parts whose boxes touch in a motion, and those whose boxes are close at one moment, found
+//! by uniform grids without a look at each pair.
+#![tactic(auto)]
+
+mod boxes;
+mod counted;
+mod list;
+mod near;
+mod pairs;
+
+pub use list::PairList;
+pub use near::BoxTests;
+pub use pairs::{close_pairs, swept_pairs, swept_pairs_counted};
