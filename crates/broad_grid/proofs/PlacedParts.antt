@@ -1,5 +1,5 @@
 -- The parts of a surface have places where its vertices have, and each kind has as many boxes as parts.
-use Rattle.std.proofs.Common.{◌≡◌, ◌∙◌, ℕ, ◌<◌, ◌^◌, List, [], ◌∷◌, map, length, get_or, ap, sym, refl, subst, arith, inl}
+use Rattle.std.proofs.Common.{◌≡◌, ◌∙◌, ℕ, ◌<◌, ◌^◌, List, [], ◌∷◌, map, length, get_or, ap, sym, subst, arith}
 use Rattle.std.specs.Prelude.{All}
 use Rattle.std.proofs.lemmas.List.{get_or_default, length-map}
 use Rattle.std.proofs.lemmas.List.Elements.{All-contains}
@@ -9,13 +9,13 @@ use Rattle.boundary.specs.declared.pairs.PairKind.{PairKind}
 use Rattle.boundary.specs.declared.pairs.PairKind.TheVariants.{VE, VT, EE, ET}
 use Rattle.boundary.specs.Calls.Parts.{IsPart}
 use Rattle.boundary.specs.Pairs.{second_parts}
-use Rattle.boundary.specs.Surface.{AreSurfaceLists, SurfaceLists}
-use Rattle.boundary.proofs.SurfaceParts.{first_is_edge, second_is_triangle}
+use Rattle.boundary.specs.Surface.{SurfaceLists}
 use Rattle.broad_grid.specs.declared.boxes.PartBoxes.{PartBoxes}
 use Rattle.broad_grid.specs.PartBoxes.{swept_box}
 use Rattle.broad_grid.specs.Calls.Boxes.{HasBoxes, IsPlaced, first_boxes, second_boxes}
 use Rattle.broad_grid.specs.Calls.Rows.{AreFirst, HasAsMany}
 
+-- one to three vertices have places where all vertices have
 placed : (s : SurfaceLists) (x0 x1 : List V3) (nodes : List ℕ) → HasNodes x0 s.vertices → HasNodes x1 s.vertices → IsPart s nodes → IsPlaced x0 x1 nodes
 placed s x0 x1 nodes h k part = record {
   some = omega (arith, part.some);
@@ -23,17 +23,9 @@ placed s x0 x1 nodes h k part = record {
   end = λ j d l. All-contains (λ node. node < length x1) s.vertices (get_or nodes j d) k (part.vertices j d l);
 }
 
-pub edges_placed : (s : SurfaceLists) (x0 x1 : List V3) (edges : List (List ℕ)) → AreSurfaceLists s → HasNodes x0 s.vertices → HasNodes x1 s.vertices → edges ≡ s.edges → All (IsPlaced x0 x1) edges
-edges_placed s x0 x1 edges lists h k e = λ i d l.
-    placed s x0 x1 (get_or edges i d) h k
-    (subst (IsPart s) (get_or_default edges i [] d l)
-    (first_is_edge s EE edges i lists (inl refl) (subst (λ (es : List (List ℕ)). i < length es) e l) e))
-
-pub triangles_placed : (s : SurfaceLists) (x0 x1 : List V3) (triangles : List (List ℕ)) → AreSurfaceLists s → HasNodes x0 s.vertices → HasNodes x1 s.vertices → triangles ≡ s.triangles → All (IsPlaced x0 x1) triangles
-triangles_placed s x0 x1 triangles lists h k e = λ i d l.
-    placed s x0 x1 (get_or triangles i d) h k
-    (subst (IsPart s) (get_or_default triangles i [] d l)
-    (second_is_triangle s VT triangles i lists (inl refl) (subst (λ (ts : List (List ℕ)). i < length ts) e l) e))
+-- so has each of a list of parts
+pub parts_placed : (s : SurfaceLists) (x0 x1 : List V3) (parts : List (List ℕ)) → HasNodes x0 s.vertices → HasNodes x1 s.vertices → ((i : ℕ) → i < length parts → IsPart s (get_or parts i [])) → All (IsPlaced x0 x1) parts
+parts_placed s x0 x1 parts h k each = λ i d l. placed s x0 x1 (get_or parts i d) h k (subst (IsPart s) (get_or_default parts i [] d l) (each i l))
 
 vertex_count : (s : SurfaceLists) (x0 x1 : List V3) (boxes : PartBoxes) → HasBoxes s x0 x1 boxes → length boxes.vertices.items ≡ length s.vertices
 vertex_count s x0 x1 boxes h = ap length h.vertices ∙ length-map s.vertices (λ vertex. swept_box x0 x1 (vertex ∷ []))

@@ -1,10 +1,9 @@
 -- The near pairs by their first parts are a filter of the pair order.
-use Rattle.std.proofs.Common.{◌≡◌, ◌∙◌, ℕ, ◌+◌, ◌<◌, Bool, true, false, ◌&&◌, cond, List, [], ◌∷◌, ◌++◌, map, take, length, get_or, ap, sym, refl, append_assoc}
+use Rattle.std.proofs.Common.{◌≡◌, ◌∙◌, ℕ, ◌+◌, Bool, true, false, ◌&&◌, cond, List, [], ◌∷◌, ◌++◌, map, length, get_or, ap, sym, refl, append_assoc}
 use Rattle.std.specs.List.{filter, flat_map, range_with_len}
 use Rattle.std.proofs.Math.ListN.{get_or-map}
 use Rattle.std.proofs.lemmas.Bool.{and_parts}
-use Rattle.std.proofs.lemmas.List.{flat_map_more, length-map, map-append, take_more}
-use Rattle.std.proofs.lemmas.List.Elements.{filter_more}
+use Rattle.std.proofs.lemmas.List.{length-map}
 use Rattle.std.proofs.lemmas.Option.{slice_get-get_or}
 use Rattle.list_laws.proofs.Filters.{filter-flat_map, filter-map}
 use Rattle.list_laws.proofs.Pushes.{flat_map_counted_more}
@@ -162,26 +161,3 @@ rows_more row a start before after last so_far is pushed =
     ∙ (λ i. so_far i ++ is i)
     ∙ append_assoc start (flat_map row (range_with_len 0 a)) (row a)
     ∙ ap (λ l. start ++ l) (sym (flat_map_counted_more row a))
-
--- the rows of one kind more
-pub kinds_more : (rows : PairKind → List Pair) (ks : List PairKind) (k : ℕ) (d : PairKind) (start before after last : List Pair) → k < length ks → before ≡ start ++ flat_map rows (take k ks) → last ≡ rows (get_or ks k d) → after ≡ before ++ last → after ≡ start ++ flat_map rows (take (k + 1) ks)
-kinds_more rows ks k d start before after last l so_far is pushed =
-    pushed
-    ∙ (λ i. so_far i ++ is i)
-    ∙ append_assoc start (flat_map rows (take k ks)) (rows (get_or ks k d))
-    ∙ ap (λ r. start ++ r) (flat_map_more rows [] (take k ks) (get_or ks k d) ∙ ap (flat_map rows) (sym (take_more ks k d l)))
-
--- one candidate more
-pub near_more : (f : ℕ → Pair) (p : ℕ → Bool) (found : List ℕ) (k : ℕ) (start before after last : List Pair) → k < length found → before ≡ start ++ map f (filter p (take k found)) → last ≡ cond (p (get_or found k 0)) (f (get_or found k 0) ∷ []) [] → after ≡ before ++ last → after ≡ start ++ map f (filter p (take (k + 1) found))
-near_more f p found k start before after last l so_far is pushed =
-    let b = get_or found k 0 in
-    pushed
-    ∙ (λ i. so_far i ++ is i)
-    ∙ append_assoc start (map f (filter p (take k found))) (cond (p b) (f b ∷ []) [])
-    ∙ ap (λ r. start ++ (map f (filter p (take k found)) ++ r)) (image b (p b))
-    ∙ ap (λ r. start ++ r) (sym (map-append f (filter p (take k found)) (cond (p b) (b ∷ []) [])))
-    ∙ ap (λ r. start ++ map f r) (sym (filter_more p found k 0 l))
-  where
-    image : (b : ℕ) (t : Bool) → cond t (f b ∷ []) [] ≡ map f (cond t (b ∷ []) [])
-    image b true = refl
-    image b false = refl

@@ -1,23 +1,31 @@
-use Rattle.std.proofs.Common.{◌∙◌, ◌∷◌, [], ap, arith, map, sym, subst}
+use Rattle.std.proofs.Common.{ℕ, ◌<◌, List, length, refl, inl, ◌∙◌, ◌∷◌, [], ap, arith, map, sym, subst}
 use Rattle.std.specs.Prelude.{All}
 use Rattle.box_grid.specs.Candidates.{LiesInTheBox}
 use Rattle.broad_grid.specs.PartBoxes.{swept_box}
-use Rattle.broad_grid.proofs.PlacedParts.{edges_placed, triangles_placed}
+use Rattle.boundary.specs.declared.pairs.PairKind.TheVariants.{VT, EE}
+use Rattle.boundary.proofs.SurfaceParts.{first_is_edge, second_is_triangle}
+use Rattle.broad_grid.proofs.PlacedParts.{parts_placed}
 use Rattle.broad_grid.proofs.boxes.part_boxes.Goals as goal
 
 pub boxes_of_parts-requires : goal.boxes_of_parts-requires
-boxes_of_parts-requires c = (
-  omega arith,
-  edges_placed c.args.surface.now c.args.x0.now c.args.x1.now c.edges.result.now c.edges.ensures.lists c.requires.start
-      c.requires.end c.edges.ensures.edges,
-)
+boxes_of_parts-requires c =
+    let s = c.args.surface.now in
+    let edges = c.edges.result.now in
+    let same = c.edges.ensures.edges in (
+      omega arith,
+      parts_placed s c.args.x0.now c.args.x1.now edges c.requires.start c.requires.end
+          (λ i l. first_is_edge s EE edges i c.edges.ensures.lists (inl refl) (subst (λ (es : List (List ℕ)). i < length es) same l) same),
+    )
 
 pub boxes_of_parts-requires-2 : goal.boxes_of_parts-requires-2
-boxes_of_parts-requires-2 c = (
-  omega arith,
-  triangles_placed c.args.surface.now c.args.x0.now c.args.x1.now c.triangles.result.now c.triangles.ensures.lists
-      c.requires.start c.requires.end c.triangles.ensures.triangles,
-)
+boxes_of_parts-requires-2 c =
+    let s = c.args.surface.now in
+    let triangles = c.triangles.result.now in
+    let same = c.triangles.ensures.triangles in (
+      omega arith,
+      parts_placed s c.args.x0.now c.args.x1.now triangles c.requires.start c.requires.end
+          (λ i l. second_is_triangle s VT triangles i c.triangles.ensures.lists (inl refl) (subst (λ (ts : List (List ℕ)). i < length ts) same l) same),
+    )
 
 pub returns : goal.returns
 returns c =
