@@ -1,3 +1,4 @@
 mod BoxesInTheBox
+mod Counts
 mod PlacedParts
 mod RowsOfPairs

@@ -24,7 +24,7 @@ use Rattle.broad_grid.specs.declared.near.FirstPart.{FirstPart}
 use Rattle.broad_grid.specs.NearPairs.{are_boxes_within, close_pairs_of, is_close}
 use Rattle.broad_grid.specs.PartBoxes.{part_box, swept_box}
 use Rattle.broad_grid.specs.Calls.Boxes.{HasBoxes, first_boxes, second_boxes}
-use Rattle.broad_grid.specs.Calls.Rows.{is_near, near_row, near_rows, near_rows_of_kinds}
+use Rattle.broad_grid.specs.Calls.Rows.{is_near, near_pairs_with, near_row, near_rows, near_rows_of_kinds}
 use Rattle.broad_grid.specs.Calls.Walk.{near_pairs_of}
 use Rattle.broad_grid.proofs.BoxesInTheBox.{around_itself}
 
@@ -142,7 +142,7 @@ close_as_near reach s x =
 -- ---- the walk
 -- the candidates that are near are all that are near
 pub row_of_candidates : (reach : ℕ) (s : SurfaceLists) (first : FirstPart) (grid boxes : List BoundingBox) (found list : List ℕ) → boxes ≡ grid → list ≡ found → AreCandidates reach first.around grid found →
-    map (pair_of first.kind first.a) (filter (is_near reach s first boxes) list) ≡ near_row reach s first grid
+    near_pairs_with reach s first boxes list ≡ near_row reach s first grid
 row_of_candidates reach s first grid boxes found list e f c =
     (λ i. map (pair_of first.kind first.a) (filter (is_near reach s first (e i)) (f i)))
     ∙ ap (map (pair_of first.kind first.a)) (pass_as_all_positions reach first.around grid found c (is_near reach s first grid) only_near)

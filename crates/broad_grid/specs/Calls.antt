@@ -1,4 +1,5 @@
 -- What private functions give.
 pub mod Boxes
+pub mod Counts
 pub mod Rows
 pub mod Walk

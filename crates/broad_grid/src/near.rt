@@ -1,11 +1,12 @@
 //! The walk over first parts, for each of which a grid gives the second parts that may be near.
-ghost use Rattle.std.specs.Prelude.{◌≡◌, ◌<◌, ◌≤◌, ◌++◌, ◌∷◌, [], IfOk, All, length, map, filter, if◌then◌else◌};
+ghost use Rattle.std.specs.Prelude.{◌≡◌, ◌<◌, ◌≤◌, ◌+◌, ◌++◌, ◌∷◌, [], IfOk, All, length, map, filter, if◌then◌else◌};
 ghost use Rattle.space3.specs.Boxes.{are_within};
 ghost use Rattle.space3.specs.Mesh.{HasNodes};
 ghost use Rattle.boundary.specs.Pairs.{counts, first_parts, pair_of, second_parts};
 ghost use Rattle.box_grid.specs.Candidates.{LiesInTheBox};
 ghost use Rattle.box_grid.specs.declared.limits.TheConstants.{REACH_LIMIT};
-ghost use Rattle.broad_grid.specs.Calls.Rows.{AreFirst, HasAsMany, IsFirst, is_near, near_row, near_rows, near_rows_of_kinds};
+ghost use Rattle.broad_grid.specs.Calls.Counts.{HasCounted};
+ghost use Rattle.broad_grid.specs.Calls.Rows.{AreFirst, HasAsMany, IsFirst, is_near, near_pairs_with, near_row, near_rows, near_rows_of_kinds};
 ghost use Rattle.broad_grid.specs.Calls.Walk.{near_pairs_of};
 
 use crate::boxes::{PartBoxes, first_boxes, part_boxes, second_grid};
@@ -47,6 +48,7 @@ pub(crate) fn near_pairs(
     ensures pairs { IfOk result (λ pairs. pairs ≡
         near_pairs_of reach surface.now x0.now x1.now kinds.now) }
     ensures tests { tests.old.n ≤ tests.new.n }
+    ensures counted { IfOk result (λ pairs. HasCounted tests.old.n tests.new.n 0 (length pairs)) }
 {
     let boxes = part_boxes(alloc, surface, x0, x1, reach)?;
     let mut pairs = Vec::new(alloc);
@@ -70,6 +72,8 @@ fn append_kinds(
     ensures pairs { IfOk result (λ _. pairs.new.items ≡
         pairs.old.items ++ near_rows_of_kinds reach surface.now boxes.now kinds.now) }
     ensures tests { tests.old.n ≤ tests.new.n }
+    ensures counted { IfOk result (λ _. HasCounted tests.old.n tests.new.n
+        (length pairs.old.items) (length pairs.new.items)) }
 {
     for kind in kinds {
         let firsts = first_boxes(boxes, *kind);
@@ -96,6 +100,8 @@ fn append_rows(
     ensures pairs { IfOk result (λ _. pairs.new.items ≡
         pairs.old.items ++ near_rows reach surface.now kind firsts.now grid.now) }
     ensures tests { tests.old.n ≤ tests.new.n }
+    ensures counted { IfOk result (λ _. HasCounted tests.old.n tests.new.n
+        (length pairs.old.items) (length pairs.new.items)) }
 {
     for a in 0..firsts.len() {
         let first = FirstPart {
@@ -124,6 +130,8 @@ fn append_row(
     ensures pairs { IfOk result (λ _. pairs.new.items ≡
         pairs.old.items ++ near_row reach surface.now first grid.now) }
     ensures tests { tests.old.n ≤ tests.new.n }
+    ensures counted { IfOk result (λ _. HasCounted tests.old.n tests.new.n
+        (length pairs.old.items) (length pairs.new.items)) }
 {
     grid.near(reach, &first.around, found)?;
     append_near(surface, first, grid.boxes(), reach, found, tests, pairs)
@@ -142,9 +150,11 @@ fn append_near(
     requires first { IsFirst surface.now first }
     requires seconds { length boxes.now ≡ length (second_parts surface.now first.kind) }
     requires there { All (λ b. b < length boxes.now) found.now }
-    ensures pairs { IfOk result (λ _. pairs.new.items ≡ pairs.old.items
-        ++ map (pair_of first.kind first.a) (filter (is_near reach surface.now first boxes.now) found.now)) }
+    ensures pairs { IfOk result (λ _. pairs.new.items ≡
+        pairs.old.items ++ near_pairs_with reach surface.now first boxes.now found.now) }
     ensures tests { tests.old.n ≤ tests.new.n }
+    ensures counted { IfOk result (λ _. HasCounted tests.old.n tests.new.n
+        (length pairs.old.items) (length pairs.new.items)) }
 {
     for b in found {
         tests.n = tests.n.saturating_add(1);
@@ -176,8 +186,9 @@ fn pair_with(first: FirstPart, b: u32) -> Pair
 }
 
 fn append_where(wanted: bool, pair: Pair, pairs: &mut Vec<Pair>) -> Result<(), AllocError>
-    ensures { IfOk result (λ _. pairs.new.items ≡
+    ensures pairs { IfOk result (λ _. pairs.new.items ≡
         pairs.old.items ++ (if wanted then pair ∷ [] else [])) }
+    ensures one { IfOk result (λ _. length pairs.new.items ≤ length pairs.old.items + 1) }
 {
     if wanted {
         pairs.push(pair)?;

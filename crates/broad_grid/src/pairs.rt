@@ -1,5 +1,5 @@
 //! The pairs that touch in a motion, and those that are close at one moment.
-ghost use Rattle.std.specs.Prelude.{◌≡◌, ◌≤◌, IfOk};
+ghost use Rattle.std.specs.Prelude.{◌≡◌, ◌+◌, ◌-◌, ◌^◌, ◌≤◌, IfOk, length, min};
 ghost use Rattle.space3.specs.Mesh.{HasNodes};
 ghost use Rattle.box_grid.specs.declared.limits.TheConstants.{REACH_LIMIT};
 ghost use Rattle.broad_grid.specs.NearPairs.{close_pairs_of, swept_pairs_of};
@@ -29,7 +29,8 @@ pub fn swept_pairs(
     swept_pairs_counted(alloc, surface, x0, x1, &mut tests)
 }
 
-/// The same pairs. The comparisons of two boxes are added to `tests`.
+/// The same pairs. The comparisons of two boxes are added to `tests`, one or more for each pair of the answer; at the end
+/// of its type the number stands still.
 pub fn swept_pairs_counted(
     alloc: Global,
     surface: &Surface,
@@ -41,6 +42,8 @@ pub fn swept_pairs_counted(
     requires end { HasNodes x1.now surface.now.vertices }
     ensures pairs { IfOk result (λ pairs. pairs ≡ swept_pairs_of surface.now x0.now x1.now) }
     ensures tests { tests.old.n ≤ tests.new.n }
+    ensures counted { IfOk result (λ pairs.
+        min (tests.old.n + length pairs) (2 ^ 64 - 1) ≤ tests.new.n) }
 {
     near_pairs(alloc, surface, x0, x1, &KINDS, 0, tests)
 }

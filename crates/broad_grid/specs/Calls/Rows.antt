@@ -34,11 +34,16 @@ abbrev pub is_near : ℕ → SurfaceLists → FirstPart → List BoundingBox →
 is_near reach s first boxes b =
     are_within reach first.around (box_at boxes b) && counts s (pair_of first.kind first.a b)
 
+-- the near pairs of a first part with some second parts
+abbrev pub near_pairs_with : ℕ → SurfaceLists → FirstPart → List BoundingBox → List ℕ → List Pair
+near_pairs_with reach s first boxes seconds =
+    map (pair_of first.kind first.a) (filter (is_near reach s first boxes) seconds)
+
 -- the near pairs of a first part
 abbrev pub near_row : ℕ → SurfaceLists → FirstPart → List BoundingBox → List Pair
-near_row reach s first boxes =
-    map (pair_of first.kind first.a) (filter (is_near reach s first boxes) (range_with_len 0 (length boxes)))
+near_row reach s first boxes = near_pairs_with reach s first boxes (range_with_len 0 (length boxes))
 
+-- the first part of a kind at a position
 abbrev pub first_part : PairKind → List BoundingBox → ℕ → FirstPart
 first_part kind firsts a = record { kind = kind; a = a; around = box_at firsts a }
 
