@@ -2,13 +2,16 @@ pub mod Ascending
 pub mod Corners
 pub mod GroupCuts
 pub mod Joining
+pub mod OneOutcome
 pub mod OneSurface
 pub mod Order
 pub mod OwnersInGroups
 pub mod PairFirsts
 pub mod PairOrder
 pub mod PairStands
+pub mod SomeOutcome
 pub mod SortedGroups
 pub mod SortedOnce
+pub mod SortedSets
 pub mod SurfaceFacts
 pub mod SurfaceParts

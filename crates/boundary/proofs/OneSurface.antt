@@ -12,7 +12,7 @@ use Rattle.boundary.specs.Surface.{AreEdges, AreVertices, IsBoundaryFace, IsSurf
 use Rattle.boundary.proofs.Order.{is_total}
 
 -- there is one sorted list of all that have a property
-one_list : {A : Type 0} {order : A → A → Ordering} (P : A → Type 0) (xs ys : List A) → IsTotalOrder order → IsSortedListOf order P xs → IsSortedListOf order P ys → xs ≡ ys
+pub one_list : {A : Type 0} {order : A → A → Ordering} (P : A → Type 0) (xs ys : List A) → IsTotalOrder order → IsSortedListOf order P xs → IsSortedListOf order P ys → xs ≡ ys
 one_list P xs ys total a b =
     one_sorted_list total xs ys a.sorted b.sorted
     (λ z i. b.all z (All-contains P xs z a.each i))

@@ -20,7 +20,7 @@ pub same_test : (x y : List ℕ) → x ≡ y → pointwise nat_eq x y ≡ true
 same_test x y = (bytes_decides x y).1
 
 -- the one is before the other, or they are the same, or it is after it
-ways : (x y : List ℕ) → (node_order x y ≡ Less) ⊎ ((x ≡ y) ⊎ (node_order y x ≡ Less))
+pub ways : (x y : List ℕ) → (node_order x y ≡ Less) ⊎ ((x ≡ y) ⊎ (node_order y x ≡ Less))
 ways x y = by (node_order x y) refl
   where
     by : (o : Ordering) → node_order x y ≡ o → (node_order x y ≡ Less) ⊎ ((x ≡ y) ⊎ (node_order y x ≡ Less))

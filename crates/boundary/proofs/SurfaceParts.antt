@@ -1,5 +1,5 @@
 -- The parts of a surface have one to three of its vertices.
-use Rattle.std.proofs.Common.{◌≡◌, ap, refl, ◌⊎◌, ℕ, ◌<◌, List, [], ◌∷◌, length, get_or, sym, subst, arith, inl, inr, lit<}
+use Rattle.std.proofs.Common.{◌≡◌, ap, refl, ◌⊎◌, ℕ, ◌<◌, List, [], ◌∷◌, map, length, get_or, sym, subst, arith, inl, inr, lit<}
 use Rattle.std.specs.Prelude.{slice_index}
 use Rattle.std.specs.List.{Contains, flat_map}
 use Rattle.std.proofs.lemmas.List.Elements.{All-cons, All-contains, All-nil, Contains-get_or}
@@ -8,7 +8,7 @@ use Rattle.boundary.specs.Calls.Parts.{IsPart}
 use Rattle.boundary.specs.Pairs.{first_parts, second_parts}
 use Rattle.boundary.specs.declared.pairs.PairKind.{PairKind}
 use Rattle.boundary.specs.declared.pairs.PairKind.TheVariants.{VE, VT, EE, ET}
-use Rattle.std.proofs.lemmas.List.{length-map}
+use Rattle.std.proofs.lemmas.List.{get_or-map, length-map}
 use Rattle.boundary.specs.Surface.{AreSurfaceLists, IsAscendingTriple, SurfaceLists, sides_of}
 
 -- each node of a triangle is a vertex
@@ -98,3 +98,20 @@ pub second_is_triangle : (s : SurfaceLists) (kind : PairKind) (triangles : List 
 second_is_triangle s kind triangles b lists k h e =
     let long = of_either (λ x. length (second_parts s x)) kind VT ET b (length s.triangles) k refl refl h in
     triangle_part s (get_or triangles b []) lists (in_same triangles s.triangles b [] e long)
+
+-- ---- the parts of a pair
+-- a vertex in the list of parts that are vertices
+alone : (vertices : List ℕ) (a : ℕ) → a < length (map (λ (vertex : ℕ). vertex ∷ []) vertices) → get_or (map (λ (vertex : ℕ). vertex ∷ []) vertices) a [] ≡ get_or vertices a 0 ∷ []
+alone vertices a h = get_or-map (λ (vertex : ℕ). vertex ∷ []) vertices a 0 [] (omega (arith, h, length-map vertices (λ (vertex : ℕ). vertex ∷ [])))
+
+pub first_of_pair : (s : SurfaceLists) (kind : PairKind) (a : ℕ) → AreSurfaceLists s → a < length (first_parts s kind) → IsPart s (get_or (first_parts s kind) a [])
+first_of_pair s VE a lists h = first_is_vertex s VE s.vertices (get_or (first_parts s VE) a []) a (inl refl) h refl (alone s.vertices a h)
+first_of_pair s VT a lists h = first_is_vertex s VT s.vertices (get_or (first_parts s VT) a []) a (inr refl) h refl (alone s.vertices a h)
+first_of_pair s EE a lists h = first_is_edge s EE s.edges a lists (inl refl) h refl
+first_of_pair s ET a lists h = first_is_edge s ET s.edges a lists (inr refl) h refl
+
+pub second_of_pair : (s : SurfaceLists) (kind : PairKind) (b : ℕ) → AreSurfaceLists s → b < length (second_parts s kind) → IsPart s (get_or (second_parts s kind) b [])
+second_of_pair s VE b lists h = second_is_edge s VE s.edges b lists (inl refl) h refl
+second_of_pair s VT b lists h = second_is_triangle s VT s.triangles b lists (inl refl) h refl
+second_of_pair s EE b lists h = second_is_edge s EE s.edges b lists (inr refl) h refl
+second_of_pair s ET b lists h = second_is_triangle s ET s.triangles b lists (inr refl) h refl

@@ -1,5 +1,6 @@
 pub mod Calls
 pub mod Faces
+pub mod Outcomes
 pub mod Pairs
 pub mod PartPlaces
 pub mod Refusals

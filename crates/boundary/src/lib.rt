@@ -4,6 +4,7 @@
 
 mod faces;
 mod groups;
+mod laws;
 mod limits;
 mod pairs;
 mod parts;
@@ -11,6 +12,7 @@ mod refusal;
 mod sides;
 mod surface;
 
+pub use laws::{each_mesh_has_a_surface_outcome, one_surface_outcome};
 pub use limits::TRIANGLE_LIMIT;
 pub use pairs::{KINDS, Pair, PairKind, pairs_stand_in_order};
 pub use parts::PairParts;

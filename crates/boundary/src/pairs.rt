@@ -1,9 +1,9 @@
 //! The pairs of parts of a surface that must not meet, one after another.
-ghost use Rattle.std.specs.Prelude.{drop, ◌≡◌, ◌+◌, ◌<◌, ◌^◌, ◌++◌, List, length, slice_get, slice_index_or, IfSome, []};
+ghost use Rattle.std.specs.Prelude.{drop, ◌≡◌, ◌+◌, ◌<◌, ◌≤◌, ◌^◌, ◌++◌, List, length, slice_get, slice_index_or, IfSome, []};
 ghost use Rattle.std.specs.List.{flat_map};
 ghost use Rattle.boundary.specs.Calls.Parts.{IsPart};
 ghost use Rattle.boundary.specs.Calls.PairWalk.{pairs_after, row_from, rows_from};
-ghost use Rattle.boundary.specs.Pairs.{Follows, IsPair, counts, first_parts, has_node, is_in_order, kinds, pair_of, pair_order, pairs_of, pairs_of_kind, rank, second_parts, share_node};
+ghost use Rattle.boundary.specs.Pairs.{Follows, IsPair, counts, first_parts, has_node, is_in_order, kinds, pair_of, pair_order, part_pair, pairs_of, pairs_of_kind, rank, second_parts, share_node};
 ghost use Rattle.boundary.specs.SortedLists.{IsSortedListOf};
 ghost use Rattle.boundary.specs.Surface.{SurfaceLists};
 ghost use Rattle.safe_motion.specs.Safety.{PartPair};
@@ -43,6 +43,32 @@ impl Surface {
             None => first_of_kinds(self, &KINDS),
             Some(pair) => first_after(self, pair),
         }
+    }
+
+    /// The nodes of a pair's first part, as the surface's list has them.
+    pub fn first_nodes(&self, pair: Pair) -> &[u32]
+        requires { IsPair self.now pair }
+        ensures { result.now ≡ (part_pair self.now pair).left }
+    {
+        first_part(self, pair.kind, pair.a as usize)
+    }
+
+    /// The nodes of a pair's second part, as the surface's list has them.
+    pub fn second_nodes(&self, pair: Pair) -> &[u32]
+        requires { IsPair self.now pair }
+        ensures { result.now ≡ (part_pair self.now pair).right }
+    {
+        second_part(self, pair.kind, pair.b as usize)
+    }
+
+    /// Whether two parts of a kind, by their positions, are a pair that must not meet: they have no common node, and of
+    /// two edges the lower one is first.
+    pub fn counts(&self, kind: PairKind, a: usize, b: usize) -> bool
+        requires first { a < length (first_parts self.now kind) }
+        requires second { b < length (second_parts self.now kind) }
+        ensures { result ≡ counts self.now (pair_of kind a b) }
+    {
+        is_in_order(kind, a, b) & !share_node(first_part(self, kind, a), second_part(self, kind, b))
     }
 }
 
@@ -96,7 +122,7 @@ fn first_in_row(surface: &Surface, kind: PairKind, a: u32, from: usize) -> Optio
     ensures { result ≡ slice_get (row_from surface.now kind a from) 0 }
 {
     for b in from..second_count(surface, kind) {
-        if counts(surface, kind, a as usize, b) {
+        if surface.counts(kind, a as usize, b) {
             return Some(Pair {
                 kind,
                 a,
@@ -105,15 +131,6 @@ fn first_in_row(surface: &Surface, kind: PairKind, a: u32, from: usize) -> Optio
         }
     }
     None
-}
-
-fn counts(surface: &Surface, kind: PairKind, a: usize, b: usize) -> bool
-    requires first { a < length (first_parts surface.now kind) }
-    requires second { b < length (second_parts surface.now kind) }
-    ensures { result ≡ counts surface.now (pair_of kind a b) }
-{
-    is_in_order(kind, a, b)
-        & !share_node(first_part(surface, kind, a), second_part(surface, kind, b))
 }
 
 fn is_in_order(kind: PairKind, a: usize, b: usize) -> bool
@@ -161,10 +178,11 @@ fn second_count(surface: &Surface, kind: PairKind) -> usize
     }
 }
 
-// The nodes of a pair's first part.
+// The nodes of a pair's first part: one or two.
 pub(crate) fn first_part(surface: &Surface, kind: PairKind, a: usize) -> &[u32]
     requires { a < length (first_parts surface.now kind) }
     ensures nodes { result.now ≡ slice_index_or (first_parts surface.now kind) a [] }
+    ensures few { length result.now ≤ 2 }
     ensures part { IsPart surface.now result.now }
 {
     match kind {

@@ -3,7 +3,7 @@ ghost use Rattle.std.specs.Prelude.{◌≡◌, IfOk, IfErr};
 ghost use Rattle.space3.specs.Mesh.{HasNodes, IsSound};
 ghost use Rattle.space3.specs.declared.mesh.Mesh.{Mesh};
 ghost use Rattle.boundary.specs.Refusals.{IsConforming, Refuses};
-ghost use Rattle.boundary.specs.Surface.{AreSurfaceLists, IsSurface, SurfaceLists};
+ghost use Rattle.boundary.specs.Surface.{AreSurfaceLists, IsSurface, SurfaceLists, lists_of};
 
 use crate::faces::sorted_faces;
 use crate::groups::{first_same, first_thrice, single_corners};
@@ -37,6 +37,7 @@ impl Surface {
     pub fn build(alloc: Global, mesh: &Mesh) -> Result<Self, SurfErr>
         requires { IsSound mesh.now }
         ensures surface { IfOk result (λ surface. IsSurface mesh.now surface) }
+        ensures lists { IfOk result AreSurfaceLists }
         ensures conforming { IfOk result (λ _. IsConforming mesh.now) }
         ensures placed { IfOk result (λ surface. HasNodes mesh.now.places surface.vertices) }
         ensures refused { IfErr result (Refuses mesh.now) }
@@ -56,11 +57,20 @@ impl Surface {
         }
         let edges = edges_of(alloc, &triangles)?;
         let vertices = vertices_of(alloc, &triangles)?;
-        Ok(Surface {
+        Ok(Surface::of_lists(vertices, edges, triangles))
+    }
+
+    // The surface of these lists.
+    fn of_lists(vertices: Vec<u32>, edges: Vec<[u32; 2]>, triangles: Vec<[u32; 3]>) -> Self
+        requires { AreSurfaceLists (lists_of vertices.items edges.items triangles.items) }
+        ensures value { result ≡ lists_of vertices.items edges.items triangles.items }
+        ensures lists { AreSurfaceLists result }
+    {
+        Surface {
             vertices,
             edges,
             triangles,
-        })
+        }
     }
 
     /// The nodes of the triangles, ascending.

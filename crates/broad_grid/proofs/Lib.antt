@@ -2,3 +2,4 @@ mod BoxesInTheBox
 mod Counts
 mod PlacedParts
 mod RowsOfPairs
+pub mod Untouched

@@ -3,11 +3,12 @@
 #![tactic(auto)]
 
 mod boxes;
-mod counted;
+mod laws;
 mod list;
 mod near;
 mod pairs;
 
+pub use laws::untouched_pairs_are_certified;
 pub use list::PairList;
 pub use near::BoxTests;
 pub use pairs::{close_pairs, swept_pairs, swept_pairs_counted};

@@ -10,7 +10,6 @@ ghost use Rattle.broad_grid.specs.Calls.Rows.{AreFirst, HasAsMany, IsFirst, is_n
 ghost use Rattle.broad_grid.specs.Calls.Walk.{near_pairs_of};
 
 use crate::boxes::{PartBoxes, first_boxes, part_boxes, second_grid};
-use crate::counted::counts;
 use crate::list::PairList;
 use boundary::{Pair, PairKind, Surface};
 use box_grid::BoxGrid;
@@ -172,7 +171,7 @@ fn is_near(surface: &Surface, first: FirstPart, boxes: &[BoundingBox], reach: u3
     ensures { result ≡ is_near reach surface.now first boxes.now b }
 {
     are_within(reach, &first.around, &boxes[b as usize])
-        && counts(surface, first.kind, first.a as usize, b as usize)
+        && surface.counts(first.kind, first.a as usize, b as usize)
 }
 
 fn pair_with(first: FirstPart, b: u32) -> Pair

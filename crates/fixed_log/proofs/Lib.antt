@@ -1,4 +1,6 @@
 pub mod Bits
 pub mod Monotone
 pub mod Power
+pub mod Ratios
+pub mod Roots
 pub mod Whole

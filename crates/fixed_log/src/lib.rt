@@ -8,6 +8,6 @@ mod laws;
 mod logarithm;
 mod root;
 
-pub use laws::highest_bit_counts;
+pub use laws::{highest_bit_counts, root_is_greatest};
 pub use logarithm::{ARGUMENT_BITS, LN_2, lg, ln_ratio};
 pub use root::isqrt;

@@ -8,19 +8,25 @@ use Rattle.space3.specs.declared.vectors.V3.{V3}
 use Rattle.space3.specs.Vectors.{AtMost, Within, vector, origin, determinant}
 use Rattle.space3.specs.Box.{IsInTheBox}
 use Rattle.space3.specs.Moved.{halved, moved_by}
-use Rattle.safe_motion.specs.declared.depth.TheConstants.{DEPTH}
 use Rattle.safe_motion.specs.declared.motion.Corners.{Corners}
 use Rattle.safe_motion.specs.declared.motion.Edges.{Edges}
-use Rattle.safe_motion.specs.Certificates.{ArePositive, StaysPositive, VolumeCertificate, edges_at}
-use Rattle.safe_motion.specs.Safety.{corners}
+use Rattle.safe_motion.specs.declared.motion.Move.{Move}
+use Rattle.safe_motion.specs.Certificates.{ArePositive, IsServed, PairCertificate, StaysPositive, VolumeCertificate, edges_at}
+use Rattle.safe_motion.specs.Safety.{IsCertified, PartPair, corners, node_moves}
+use Rattle.plane_cut.specs.Planes.{HasPlane}
+use Rattle.plane_cut.proofs.Exclusion.{excludes}
+use Rattle.plane_cut.proofs.Weights.{alternative}
+use Rattle.pair_cert.specs.Calls.Moves.{all_ends, moves_within}
+use Rattle.pair_cert.proofs.Separations.{served_plane}
 use Rattle.surface_mesh.specs.declared.setup.Setup.{Setup}
+use Rattle.surface_mesh.specs.Safety.{corner_nodes, depth_of, part_pairs}
 use Rattle.surface_mesh.specs.Edges.{has_edges_within}
 use Rattle.potential_sum.specs.Terms.{FrameTerms}
 use Rattle.potential_sum.specs.Potential.{potential, gradient}
 use Rattle.line_search.specs.declared.step.Step.{Step}
 use Rattle.volume_cert.specs.declared.edges.TheConstants.{LONGEST_EDGE}
-use Rattle.line_search.specs.Accepted.{IsAllowed, IsAccepted, IsFirstAccepted, HasNoAccepted}
-use Rattle.line_search.specs.Upright.{HasShortEdges}
+use Rattle.line_search.specs.Accepted.{AreInReach, IsAllowed, IsAccepted, IsFirstAccepted, HasNoAccepted}
+use Rattle.potential_sum.specs.Upright.{HasShortEdges}
 use Rattle.frame_driver.specs.Directions.{jacobi}
 use Rattle.frame_driver.specs.Frames.{IsAtRest, HasStep, HasNoStep}
 use Rattle.list_laws.proofs.Decisions.{dec_along, dec_not, dec_two, dec_three, dec_four, dec_IsTrue, dec_lt_ℤ, dec_le_ℤ, dec_All, dec_Any, dec_below, least_or_none}
@@ -58,16 +64,40 @@ dec_VolumeCertificate depth t =
     dec_below (λ j. StaysPositive t j (2 ^ depth))
     (λ j. dec_ArePositive (edges_at j (2 ^ depth) t) (edges_at (j + 1) (2 ^ depth) t)) (2 ^ depth)
 
+dec_HasPlane : (rows : List V3) → Dec (HasPlane rows)
+dec_HasPlane rows = elim (alternative rows) [ inl plane ↦ yes plane | inr weights ↦ no (λ plane. excludes rows plane weights) ]
+
+pub dec_PairCertificate : (depth : ℕ) (xs ys : List Move) → Dec (PairCertificate depth xs ys)
+dec_PairCertificate depth xs ys =
+    dec_below (λ j. IsServed xs ys j (2 ^ depth))
+    (λ j. dec_along (dec_HasPlane (all_ends (moves_within xs ys j (2 ^ depth)))) (served_plane xs ys j (2 ^ depth)).1 (served_plane xs ys j (2 ^ depth)).0)
+    (2 ^ depth)
+
+dec_IsCertified : (depth : ℕ) (pairs : List PartPair) (tets : List (List ℕ)) (x y : List V3) → Dec (IsCertified depth pairs tets x y)
+dec_IsCertified depth pairs tets x y =
+    dec_along
+    (dec_two
+    (dec_All (λ pair. PairCertificate depth (node_moves x y pair.left) (node_moves x y pair.right)) (λ pair. dec_PairCertificate depth (node_moves x y pair.left) (node_moves x y pair.right)) pairs)
+    (dec_All (λ tet. VolumeCertificate depth (corners x y tet)) (λ tet. dec_VolumeCertificate depth (corners x y tet)) tets))
+    (λ h. record { pairs_apart = h.0; tets_upright = h.1 }) (λ h. (h.pairs_apart, h.tets_upright))
+
 -- ---- steps
+dec_AreInReach : (setup : Setup) (y : List V3) → Dec (AreInReach setup y)
+dec_AreInReach setup y =
+    dec_along
+    (dec_two
+    (dec_All IsInTheBox (dec_Within BOX_LIMIT) y)
+    (dec_All (λ tet. HasShortEdges y tet.nodes) (λ tet. dec_IsTrue (has_edges_within LONGEST_EDGE y tet.nodes)) setup.mesh.tets))
+    (λ h. record { in_box = h.0; edges = h.1 }) (λ h. (h.in_box, h.edges))
+
 pub dec_IsAllowed : (setup : Setup) (terms : FrameTerms) (x y : List V3) → Dec (IsAllowed setup terms x y)
 dec_IsAllowed setup terms x y =
     dec_along
-    (dec_four
-    (dec_All IsInTheBox (dec_Within BOX_LIMIT) y)
-    (dec_All (λ tet. HasShortEdges y tet.nodes) (λ tet. dec_IsTrue (has_edges_within LONGEST_EDGE y tet.nodes)) setup.mesh.tets)
-    (dec_All (λ tet. VolumeCertificate DEPTH (corners x y tet.nodes)) (λ tet. dec_VolumeCertificate DEPTH (corners x y tet.nodes)) setup.mesh.tets)
+    (dec_three
+    (dec_AreInReach setup y)
+    (dec_IsCertified (depth_of setup) (part_pairs setup) (corner_nodes setup) x y)
     (dec_lt_ℤ (potential setup terms y) (potential setup terms x)))
-    (λ h. record { in_box = h.0; edges = h.1; certified = h.2; lower = h.3 }) (λ h. (h.in_box, h.edges, h.certified, h.lower))
+    (λ h. record { in_reach = h.0; certified = h.1; lower = h.2 }) (λ h. (h.in_reach, h.certified, h.lower))
 
 pub dec_IsAccepted : (setup : Setup) (terms : FrameTerms) (x direction : List V3) (half : ℕ) → Dec (IsAccepted setup terms x direction half)
 dec_IsAccepted setup terms x direction half =

@@ -7,4 +7,4 @@ pub mod SetupDirections
 pub mod SimPaths
 pub mod Starts
 pub mod Descents
-pub mod UprightPaths
+pub mod SafePaths

@@ -7,7 +7,7 @@ use Rattle.list_laws.proofs.Chains.{Follow-append, Follow-split}
 use Rattle.space3.specs.declared.vectors.V3.{V3}
 use Rattle.surface_mesh.specs.declared.setup.Setup.{Setup}
 use Rattle.frame_driver.specs.Frames.{Frame, IsFrame, last_after}
-use Rattle.frame_driver.specs.Paths.{FramesFrom, StayUprightFrom, StepsStayUpright, after_frame, last_places}
+use Rattle.frame_driver.specs.Paths.{FramesAreSafe, FramesFrom, IsSafeFrame, after_frame, last_places}
 
 -- the last places of these frames, which begin at the places `now`
 abbrev pub now_after : (now : List V3) → List Frame → List V3
@@ -45,8 +45,8 @@ frames_split setup tol budget now before frames more h =
     let parts = Follow-split after_frame (IsFrameFrom setup tol budget) (now, before) frames more h in
     (parts.0, subst (λ (start : List V3 × List V3). Follow after_frame (IsFrameFrom setup tol budget) start more) (reached now before frames) parts.1)
 
-pub upright_join : (setup : Setup) (now : List V3) (frames more : List Frame) → StayUprightFrom setup now frames → StayUprightFrom setup (now_after now frames) more → StayUprightFrom setup now (frames ++ more)
-upright_join setup now frames more h k = Follow-append last_places (λ (x : List V3) (frame : Frame). StepsStayUpright setup x frame.steps) now frames more h k
+pub safe_join : (setup : Setup) (now : List V3) (frames more : List Frame) → FramesAreSafe setup now frames → FramesAreSafe setup (now_after now frames) more → FramesAreSafe setup now (frames ++ more)
+safe_join setup now frames more h k = Follow-append last_places (IsSafeFrame setup) now frames more h k
 
 -- ---- one frame more
 pub frames_push : (setup : Setup) (tol : ℤ) (budget : ℕ) (now before : List V3) (frames : List Frame) (frame : Frame) → FramesFrom setup tol budget now before frames → IsFrame setup tol budget (now_after now frames) (before_after now before frames) frame → FramesFrom setup tol budget now before (frames ++ frame ∷ [])

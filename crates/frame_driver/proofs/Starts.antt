@@ -7,7 +7,7 @@ use Rattle.std.proofs.lemmas.Bool.{and_parts, leb-true, le-leb}
 use Rattle.std.proofs.lemmas.Int.{ints}
 use Rattle.std.proofs.lemmas.List.{length-map}
 use Rattle.std.proofs.lemmas.Slice.Zip.{length-zip}
-use Rattle.std.proofs.lemmas.List.Elements.{All-weaker}
+use Rattle.std.proofs.lemmas.List.Elements.{All-map, All-weaker}
 use Rattle.list_laws.proofs.Elements.{All-map_back}
 use Rattle.whole_laws.proofs.Order.{size_diff}
 use Rattle.space3.specs.declared.places.TheConstants.{BOX_LIMIT}
@@ -20,10 +20,12 @@ use Rattle.surface_mesh.specs.declared.setup.Setup.{Setup}
 use Rattle.surface_mesh.specs.declared.sturdy.TheConstants.{LEAST_REST, LONGEST_REST}
 use Rattle.surface_mesh.specs.Edges.{edges_of, has_edges_within, is_within}
 use Rattle.surface_mesh.specs.Setup.{IsSetup, rest_of}
-use Rattle.surface_mesh.specs.Sturdy.{IsSturdy}
+use Rattle.surface_mesh.specs.Safety.{IsSafeAt}
+use Rattle.surface_mesh.specs.Sturdy.{IsFit}
 use Rattle.surface_mesh.proofs.SetupFacts.{velocity_length}
 use Rattle.volume_cert.specs.declared.edges.TheConstants.{LONGEST_EDGE}
-use Rattle.line_search.specs.Upright.{HasShortEdges, IsPose}
+use Rattle.line_search.specs.Poses.{IsPose}
+use Rattle.potential_sum.specs.Upright.{HasShortEdges}
 use Rattle.frame_driver.specs.Paths.{first_before}
 
 -- ---- vectors
@@ -64,17 +66,26 @@ edges_more m n places nodes l h = each (edges_of places nodes) h
 positive : (rest : ℤ) → LEAST_REST ≤ℤ rest → pos 0 <ℤ rest
 positive rest h = omega (arith, ints)
 
--- sturdy bodies may stand at the mesh's places
-pub first_pose : (s : Setup) → IsSetup s → IsSturdy s → IsPose s s.mesh.places
-first_pose s built sturdy =
+-- bodies that are fit to start are safe at the mesh's places
+pub start_is_safe : (s : Setup) → IsSetup s → IsFit s → IsSafeAt s s.mesh.places
+start_is_safe s built fit =
     let Upright : Tet → Type 0 = λ tet. pos 0 <ℤ rest_determinant s.mesh.places tet.nodes in
     let thick : All (λ tet. LEAST_REST ≤ℤ rest_of s.mesh tet) s.mesh.tets =
-    All-map_back (λ rest. LEAST_REST ≤ℤ rest) (rest_of s.mesh) s.mesh.tets (subst (All (λ rest. LEAST_REST ≤ℤ rest)) (ap (λ (t : Setup). t.rest) built.built) sturdy.rest) in
+    All-map_back (λ rest. LEAST_REST ≤ℤ rest) (rest_of s.mesh) s.mesh.tets (subst (All (λ rest. LEAST_REST ≤ℤ rest)) (ap (λ (t : Setup). t.rest) built.built) fit.sturdy.rest) in
+    record {
+      apart = fit.apart;
+      upright = All-map (λ nodes. pos 0 <ℤ rest_determinant s.mesh.places nodes) (λ (tet : Tet). tet.nodes) s.mesh.tets
+          (All-weaker (λ tet. LEAST_REST ≤ℤ rest_of s.mesh tet) Upright (λ tet h. positive (rest_of s.mesh tet) h) s.mesh.tets thick);
+    }
+
+-- and may stand there
+pub first_pose : (s : Setup) → IsSetup s → IsFit s → IsPose s s.mesh.places
+first_pose s built fit =
     record {
       each = sym built.mesh_is_sound.placed;
-      upright = All-weaker (λ tet. LEAST_REST ≤ℤ rest_of s.mesh tet) Upright (λ tet h. positive (rest_of s.mesh tet) h) s.mesh.tets thick;
+      safe = start_is_safe s built fit;
       edges = All-weaker (λ tet. IsTrue (has_edges_within LONGEST_REST s.mesh.places tet.nodes)) (λ tet. HasShortEdges s.mesh.places tet.nodes)
-          (λ tet h. edges_more LONGEST_REST LONGEST_EDGE s.mesh.places tet.nodes (lit≤ tt) h) s.mesh.tets sturdy.edges;
+          (λ tet h. edges_more LONGEST_REST LONGEST_EDGE s.mesh.places tet.nodes (lit≤ tt) h) s.mesh.tets fit.sturdy.edges;
     }
 
 -- ---- the places before

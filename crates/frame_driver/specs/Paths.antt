@@ -4,8 +4,8 @@ use Rattle.list_laws.specs.Chains.{Follow}
 use Rattle.space3.specs.declared.vectors.V3.{V3}
 use Rattle.space3.specs.Vectors.{difference}
 use Rattle.surface_mesh.specs.declared.setup.Setup.{Setup}
+use Rattle.surface_mesh.specs.Safety.{IsSafeAt, IsSafeStep}
 use Rattle.line_search.specs.declared.step.Step.{Step}
-use Rattle.line_search.specs.Upright.{StaysUpright}
 use Rattle.frame_driver.specs.Frames.{Frame, IsFrame, last_after, places_after}
 
 -- each place less the velocity there
@@ -30,14 +30,19 @@ FramesFrom setup tol budget now before frames =
 abbrev pub IsPath : Setup → (tol : ℤ) (budget : ℕ) → List Frame → Type 0
 IsPath setup tol budget frames = FramesFrom setup tol budget setup.mesh.places (first_before setup) frames
 
--- on each of the steps from the places `now`, no tetrahedron turns inside out
-abbrev pub StepsStayUpright : Setup → (now : List V3) → List Step → Type 0
-StepsStayUpright setup now steps = Follow places_after (λ x step. StaysUpright setup x step.places) now steps
+-- each of the steps from the places `now` is safe
+abbrev pub StepsAreSafe : Setup → (now : List V3) → List Step → Type 0
+StepsAreSafe setup now steps = Follow places_after (λ x step. IsSafeStep setup x step.places) now steps
+
+-- a frame from the places x is safe: each of its steps is, and so are its last places by themselves
+pub record IsSafeFrame (setup : Setup) (x : List V3) (frame : Frame) : Type 0 where
+  pub on_steps : StepsAreSafe setup x frame.steps
+  pub at_end : IsSafeAt setup (last_after x frame.steps)
 
 -- the last places of a frame from the places x
 abbrev pub last_places : List V3 → Frame → List V3
 last_places x frame = last_after x frame.steps
 
--- on each step of each frame
-abbrev pub StayUprightFrom : Setup → (now : List V3) → List Frame → Type 0
-StayUprightFrom setup now frames = Follow last_places (λ x frame. StepsStayUpright setup x frame.steps) now frames
+-- each of the frames from the places `now` is safe
+abbrev pub FramesAreSafe : Setup → (now : List V3) → List Frame → Type 0
+FramesAreSafe setup now frames = Follow last_places (IsSafeFrame setup) now frames

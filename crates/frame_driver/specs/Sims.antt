@@ -7,10 +7,10 @@ use Rattle.surface_mesh.specs.declared.setup.Setup.{Setup}
 use Rattle.surface_mesh.specs.Setup.{IsSetup}
 use Rattle.surface_mesh.specs.Sturdy.{IsSturdy}
 use Rattle.line_search.specs.declared.step.Step.{Step}
-use Rattle.line_search.specs.Upright.{IsPose}
+use Rattle.line_search.specs.Poses.{IsPose}
 use Rattle.frame_driver.specs.declared.end.FrameEnd.{FrameEnd}
 use Rattle.frame_driver.specs.Frames.{IsFrame, last_after}
-use Rattle.frame_driver.specs.Paths.{StepsStayUpright, first_before}
+use Rattle.frame_driver.specs.Paths.{IsSafeFrame, first_before}
 
 -- the bodies, the tolerance and budget of each frame, the places now, and those at the start of the last frame
 pub record SimState : Type 0 where
@@ -45,5 +45,5 @@ pub record Advances (end : FrameEnd) (old new : SimState) : Type 0 where
   pub setup : new.setup ≡ old.setup
   pub tol : new.tol ≡ old.tol
   pub budget : new.budget ≡ old.budget
-  -- at every fraction of every step each volume is positive
-  pub upright : StepsStayUpright old.setup old.places steps
+  -- at every fraction of every step no pair meets and each volume is positive
+  pub safe : IsSafeFrame old.setup old.places (record { steps = steps; end = end })

@@ -2,13 +2,14 @@
 ghost use Rattle.std.specs.Prelude.{◌≡◌, ◌≤ℤ◌, ◌↔◌, pos, IfOk, IfSome, IfNone, All, IsTrue, unsigned_abs};
 ghost use Rattle.potential_sum.specs.Potential.{gradient, potential};
 ghost use Rattle.line_search.specs.Steps.{AreReady};
-ghost use Rattle.line_search.specs.Upright.{IsPose};
+ghost use Rattle.line_search.specs.Poses.{IsPose};
 ghost use Rattle.frame_driver.specs.Frames.{HasNoStep, IsStepAt};
 ghost use Rattle.frame_driver.specs.Calls.Descents.{ComesNext, Descends};
 
 use crate::end::FrameEnd;
 use crate::jacobi::directions;
 use line_search::{Step, first_step};
+use plane_cut::Tally;
 use potential_sum::Terms;
 use space3::Places;
 use std::alloc::{AllocError, Global};
@@ -32,7 +33,7 @@ pub(crate) fn descend(
     now: &Places,
 ) -> Result<(Places, FrameEnd), AllocError>
     requires { AreReady setup.now terms.now now.now }
-    ensures { IfOk result (λ done. Descends setup.now tol budget terms.now now.now done.0 done.1) }
+    ensures { IfOk result (λ done. Descends setup.now tol budget terms.now.frame now.now done.0 done.1) }
 {
     let mut slopes = Vec::new(alloc);
     let mut x = now.copy(alloc)?;
@@ -66,8 +67,8 @@ fn next_at(
     slopes: &mut Vec<i128>,
 ) -> Result<Next, AllocError>
     requires ready { AreReady setup.now terms.now x.now }
-    requires upper { upper ≡ potential setup.now terms.now x.now }
-    ensures { IfOk result (ComesNext setup.now tol terms.now x.now) }
+    requires upper { upper ≡ potential setup.now terms.now.frame x.now }
+    ensures { IfOk result (ComesNext setup.now tol terms.now.frame x.now) }
 {
     terms.gradient(alloc, setup, x, slopes)?;
     if is_at_rest(slopes, tol) {
@@ -103,12 +104,15 @@ fn step_from(
     slopes: &[i128],
 ) -> Result<Option<Step>, AllocError>
     requires ready { AreReady setup.now terms.now x.now }
-    requires upper { upper ≡ potential setup.now terms.now x.now }
-    requires slopes { slopes.now ≡ gradient setup.now terms.now x.now }
-    ensures step { IfOk result (λ step. IfSome step (IsStepAt setup.now terms.now x.now)) }
-    ensures exhausted { IfOk result (λ step. IfNone step (HasNoStep setup.now terms.now x.now)) }
+    requires upper { upper ≡ potential setup.now terms.now.frame x.now }
+    requires slopes { slopes.now ≡ gradient setup.now terms.now.frame x.now }
+    ensures step { IfOk result (λ step. IfSome step (IsStepAt setup.now terms.now.frame x.now)) }
+    ensures exhausted { IfOk result (λ step. IfNone step (HasNoStep setup.now terms.now.frame x.now)) }
     ensures pose { IfOk result (λ step. IfSome step (λ s. IsPose setup.now s.places)) }
 {
-    let direction = directions(alloc, setup.mass.items(), setup.fixed.items(), slopes)?;
-    first_step(alloc, setup, terms, x, DirList::of_vec(direction), upper)
+    let diagonal = terms.diagonal(alloc, setup, x)?;
+    let direction = directions(alloc, x.len(), diagonal.as_slice(), slopes)?;
+    let direction = DirList::of_vec(direction);
+    let mut tally = Tally { n: 0 };
+    first_step(alloc, setup, terms, x, direction, upper, &mut tally)
 }

@@ -3,7 +3,8 @@ ghost use Rattle.std.specs.Prelude.{◌≡◌, ℕ, ℤ, List, length};
 ghost use Rattle.space3.specs.declared.vectors.V3.{V3};
 ghost use Rattle.surface_mesh.specs.declared.setup.Setup.{Setup};
 ghost use Rattle.frame_driver.specs.Frames.{Frame};
-ghost use Rattle.frame_driver.specs.Paths.{FramesFrom, StayUprightFrom};
+ghost use Rattle.frame_driver.specs.Paths.{FramesAreSafe, FramesFrom};
+ghost use Rattle.surface_mesh.specs.Safety.{IsSafeAt};
 
 /// From all places, after all places, there is a path of so many frames.
 pub fn there_is_a_path()
@@ -19,8 +20,10 @@ pub fn one_path()
         FramesFrom setup tol budget now before a → FramesFrom setup tol budget now before b → a ≡ b }
 {}
 
-/// On each step of a path every tetrahedron's volume is positive at every fraction.
-pub fn paths_stay_upright()
+/// From safe places on, each step of a path is safe: at every fraction no pair meets and every volume is positive. So is
+/// each place at which a frame ends.
+pub fn paths_are_safe()
     ensures { (setup : Setup) (tol : ℤ) (budget : ℕ) (now before : List V3) (frames : List Frame) →
-        FramesFrom setup tol budget now before frames → StayUprightFrom setup now frames }
+        IsSafeAt setup now → FramesFrom setup tol budget now before frames
+        → FramesAreSafe setup now frames }
 {}

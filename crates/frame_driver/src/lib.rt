@@ -9,5 +9,5 @@ mod laws;
 mod sim;
 
 pub use end::FrameEnd;
-pub use laws::{one_path, paths_stay_upright, there_is_a_path};
+pub use laws::{one_path, paths_are_safe, there_is_a_path};
 pub use sim::Sim;

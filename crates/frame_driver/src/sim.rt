@@ -1,7 +1,7 @@
 //! A simulation, frame by frame.
 ghost use Rattle.std.specs.Prelude.{◌≡◌, length, IfOk, OnErr, OnOk};
 ghost use Rattle.surface_mesh.specs.Setup.{IsSetup};
-ghost use Rattle.surface_mesh.specs.Sturdy.{IsSturdy};
+ghost use Rattle.surface_mesh.specs.Sturdy.{IsFit};
 ghost use Rattle.frame_driver.specs.Sims.{Advances, start_of};
 
 use crate::before::{list_of, places_before};
@@ -39,7 +39,7 @@ impl Sim {
     /// units times mass, and takes at most `budget` steps. Where memory is wanting, the setup is given up.
     pub fn open(alloc: Global, setup: Setup, tol: i64, budget: u32) -> Result<Self, AllocError>
         requires built { IsSetup setup }
-        requires sturdy { IsSturdy setup }
+        requires fit { IsFit setup }
         ensures { IfOk result (λ sim. sim ≡ start_of setup tol budget) }
     {
         let before = places_before(alloc, &setup.mesh.places, setup.velocity.items())?;

@@ -22,7 +22,7 @@ use Rattle.ipc_top.specs.Calls.Files.{Takes}
 use Rattle.ipc_top.specs.Calls.Plans.{Follows, FollowsOne, Obeys, status_of}
 use Rattle.ipc_top.proofs.EachPlan.{each_plan}
 use Rattle.ipc_top.proofs.OnePlan.{only_plan}
-use Rattle.ipc_top.proofs.UprightPlans.{plans_upright}
+use Rattle.ipc_top.proofs.SafePlans.{plans_safe}
 
 -- ---- how an answer closes a plan
 
@@ -50,7 +50,7 @@ ends_some {old} {new} words result done = record {
   plan = done.plan;
   called = done.called;
   closes = closes_of done.plan result old new done.follows;
-  upright = plans_upright words done.seen done.plan done.called;
+  safe = plans_safe words done.seen done.plan done.called;
 }
 
 -- where files are told, they were seen; else the words are no command, and no file counts
@@ -68,7 +68,7 @@ ends_told {old} {new} words result files input done =
       plan = done.plan;
       called = called;
       closes = closes_of done.plan result old new done.follows;
-      upright = plans_upright words (everywhere files) done.plan called;
+      safe = plans_safe words (everywhere files) done.plan called;
     }
 
 -- ---- the causes
@@ -98,7 +98,7 @@ owed : (command : Option Command) (seen : Seen) (plan : Plan) → CommandCallsFo
 owed None seen plan e = subst (λ (p : Plan). IsStatus p.status) (sym e) refl
 owed (Some command) seen plan h =
     each_plan (λ p. IsStatus p.status) command seen plan
-    (record { three = λ acts. refl; five = λ acts. refl; six = λ acts. refl; seven = λ acts. refl; ten = λ acts. refl; taken = λ name p is. is; moves = λ job mesh frames none are. frames_owe IsStatus frames refl refl }) h
+    (record { three = λ acts. refl; five = λ acts. refl; six = λ acts. refl; seven = λ acts. refl; ten = λ acts. refl; taken = λ name p is. is; moves = λ job mesh surface frames none are. frames_owe IsStatus frames refl refl }) h
 
 pub answers : {old new : World} (words : List (List ℕ)) (result : Result ℕ End) → Obeys (CallsFor words) result old new → IsStatus (status_of result)
 answers {old} {new} words result done = by result done.follows
@@ -117,7 +117,7 @@ two_means : (command : Option Command) (seen : Seen) (plan : Plan) → CommandCa
 two_means None seen plan h e = refl
 two_means (Some command) seen plan h e =
     absurd (each_plan (λ p. p.status ≡ 2 → ⊥) command seen plan
-    (record { three = λ acts e. omega arith; five = λ acts e. omega arith; six = λ acts e. omega arith; seven = λ acts e. omega arith; ten = λ acts e. omega arith; taken = λ name p not e. not e; moves = λ job mesh frames none are. frames_owe (λ n. n ≡ 2 → ⊥) frames (λ e. omega arith) (λ e. omega arith) }) h e)
+    (record { three = λ acts e. omega arith; five = λ acts e. omega arith; six = λ acts e. omega arith; seven = λ acts e. omega arith; ten = λ acts e. omega arith; taken = λ name p not e. not e; moves = λ job mesh surface frames none are. frames_owe (λ n. n ≡ 2 → ⊥) frames (λ e. omega arith) (λ e. omega arith) }) h e)
 
 pub usage_means : {old new : World} (words : List (List ℕ)) (result : Result ℕ End) → Obeys (CallsFor words) result old new → status_of result ≡ 2 → command_of words ≡ None
 usage_means {old} {new} words result done e = by result done.follows e

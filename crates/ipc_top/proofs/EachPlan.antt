@@ -2,7 +2,8 @@
 use Rattle.std.proofs.Common.{◌≡◌, ℕ, refl, sym, subst, List, [], ◌∷◌, Option, Some, None}
 use Rattle.std.specs.FinMap.{get}
 use Rattle.surface_mesh.specs.declared.setup.Setup.{Setup}
-use Rattle.mesh_check.specs.Defects.{first_defect}
+use Rattle.boundary.specs.Surface.{SurfaceLists}
+use Rattle.mesh_check.specs.Defects.{IsFirstDefect}
 use Rattle.frame_driver.specs.Frames.{Frame}
 use Rattle.surface_mesh.specs.Setup.{setup_of}
 use Rattle.space3.specs.declared.mesh.Mesh.{Mesh}
@@ -29,7 +30,7 @@ pub record OfEach (Q : Plan → Type 0) : Type 0 where
   pub seven : (acts : List Act) → Q (plan_of acts 7)
   pub ten : (acts : List Act) → Q (plan_of acts 10)
   pub taken : (name : List ℕ) (plan : Plan) → Q plan → Q (then_plan (Take name ∷ []) plan)
-  pub moves : (job : Job) (mesh : Mesh) (frames : List Frame) → let setup = setup_of mesh job.numbers in first_defect setup ≡ None → AreFrames job setup (first_start job setup) frames → Q (motion_plan job (record { setup = setup; start = first_start job setup; frames = frames }))
+  pub moves : (job : Job) (mesh : Mesh) (surface : SurfaceLists) (frames : List Frame) → let setup = setup_of mesh surface job.numbers in IsFirstDefect setup None → AreFrames job setup (first_start job setup) frames → Q (motion_plan job (record { setup = setup; start = first_start job setup; frames = frames }))
 
 takes_each : {X : Type 0} (Q : Plan → Type 0) (name : List ℕ) (limit : ℕ) (Means : List ℕ → Outcome X → Type 0) (file : Option (List ℕ)) (Next : X → Plan → Type 0) (plan : Plan) → OfEach Q
     → ((bytes : List ℕ) (o : Outcome X) → Means bytes o → OnRefused Q o)
@@ -45,17 +46,17 @@ takes_each {X} Q name limit Means file Next plan each text next takes =
 job_each : (Q : Plan → Type 0) (job : Job) (seen : Seen) (plan : Plan) → OfEach Q → JobCallsFor job seen plan → Q plan
 job_each Q job seen plan each takes =
     takes_each Q job.mesh MESH_LIMIT (MeshMeans job.numbers) (get (seen roles.Mesh) job.mesh) (λ setup. Moves job setup (first_start job setup)) plan each
-    (mesh_refusal Q (each.six _) (λ mesh defect. each.seven _) job.numbers) moved takes
+    (mesh_refusal Q (each.six _) (λ mesh err. each.six _) (λ setup defect. each.seven _) job.numbers) moved takes
   where
-    moves_of : (setup : Setup) (rest : Plan) (mesh : Mesh) → setup ≡ setup_of mesh job.numbers → first_defect setup ≡ None → Moves job setup (first_start job setup) rest → Q rest
-    moves_of setup rest mesh built none moves =
-        let there : Moves job (setup_of mesh job.numbers) (first_start job (setup_of mesh job.numbers)) rest = subst (λ (s : Setup). Moves job s (first_start job s) rest) built moves in
-        subst Q (sym there.same) (each.moves job mesh there.frames (subst (λ (s : Setup). first_defect s ≡ None) built none) there.are)
+    moves_of : (setup : Setup) (rest : Plan) (mesh : Mesh) (surface : SurfaceLists) → setup ≡ setup_of mesh surface job.numbers → IsFirstDefect setup None → Moves job setup (first_start job setup) rest → Q rest
+    moves_of setup rest mesh surface built none moves =
+        let there : Moves job (setup_of mesh surface job.numbers) (first_start job (setup_of mesh surface job.numbers)) rest = subst (λ (s : Setup). Moves job s (first_start job s) rest) built moves in
+        subst Q (sym there.same) (each.moves job mesh surface there.frames (subst (λ (s : Setup). IsFirstDefect s None) built none) there.are)
 
     moved : (setup : Setup) (o : Outcome Setup) → FileMeans job.mesh MESH_LIMIT (MeshMeans job.numbers) (get (seen roles.Mesh) job.mesh) o → o ≡ Accepted setup → (rest : Plan) → Moves job setup (first_start job setup) rest → Q rest
     moved setup o means is rest moves =
         let found = file_accepted job.mesh MESH_LIMIT job.numbers (get (seen roles.Mesh) job.mesh) o setup means is in
-        moves_of setup rest found.1.mesh found.1.built found.1.none moves
+        moves_of setup rest found.1.mesh found.1.surface found.1.built found.1.none moves
 
 pub each_plan : (Q : Plan → Type 0) (command : Command) (seen : Seen) (plan : Plan) → OfEach Q → CommandCallsFor (Some command) seen plan → Q plan
 each_plan Q (Check mesh out) seen plan each h = job_each Q (check_job mesh out) seen plan each h

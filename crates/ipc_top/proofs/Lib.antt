@@ -9,4 +9,4 @@ pub mod Outcomes
 pub mod PlansEnded
 pub mod SomeFiles
 pub mod Taking
-pub mod UprightPlans
+pub mod SafePlans

@@ -1,6 +1,5 @@
 -- What comes of a file: always one thing, and only one.
 use Rattle.std.proofs.Common.{◌≡◌, ◌<◌, ◌≤◌, ◌+◌, ℕ, refl, ap, sym, subst, ◌∙◌, List, [], ◌∷◌, length, All, Option, Some, None, Result, Ok, Err, arith}
-use Rattle.std.specs.Option.{option_map_or}
 use Rattle.std.proofs.Math.Decide.{dec_le}
 use Rattle.space3.specs.declared.vectors.V3.{V3}
 use Rattle.space3.specs.declared.lists.Tet.{Tet}
@@ -14,8 +13,16 @@ use Rattle.msh_text.proofs.WhatIsReadIsMeant.{sections_mean}
 use Rattle.surface_mesh.specs.declared.setup.Setup.{Setup}
 use Rattle.surface_mesh.specs.declared.materials.Numbers.{Numbers}
 use Rattle.surface_mesh.specs.Setup.{setup_of}
+use Rattle.boundary.specs.declared.refusal.SurfErr.{SurfErr}
+use Rattle.boundary.specs.declared.refusal.SurfErr.TheVariants as surfaces
+use Rattle.boundary.specs.Outcomes.{IsSurfaceOutcome}
+use Rattle.boundary.specs.Refusals.{Refuses}
+use Rattle.boundary.specs.Surface.{SurfaceLists}
+use Rattle.boundary.proofs.OneOutcome.{one_surface_outcome}
+use Rattle.boundary.proofs.SomeOutcome.{some_surface_outcome}
 use Rattle.mesh_check.specs.declared.defects.Defect.{Defect}
-use Rattle.mesh_check.specs.Defects.{first_defect}
+use Rattle.mesh_check.specs.Defects.{IsFirstDefect}
+use Rattle.mesh_check.proofs.OneDefect.{one_defect, some_defect}
 use Rattle.list_laws.proofs.Decisions.{dec_All}
 use Rattle.scene_toml.specs.declared.scene.Scene.{Scene}
 use Rattle.scene_toml.specs.declared.refusal.SceneErr.{SceneErr}
@@ -24,8 +31,8 @@ use Rattle.frame_driver.proofs.DecidedSteps.{dec_Within}
 use Rattle.ipc_top.specs.Acts.{Say}
 use Rattle.ipc_top.specs.CallsFor.{SceneMeans, scene_outcome}
 use Rattle.ipc_top.specs.Files.{Outcome, Accepted, Refused, FileMeans, Missing, TooLong, Whole}
-use Rattle.ipc_top.specs.Lines.{too_long_line, mesh_refused_line, defect_line, scene_refused_line}
-use Rattle.ipc_top.specs.Meshes.{Means, setup_outcome, MeshMeans, NoMesh, OfMesh}
+use Rattle.ipc_top.specs.Lines.{too_long_line, mesh_refused_line, defect_line, scene_refused_line, surface_refused_line}
+use Rattle.ipc_top.specs.Meshes.{Means, MeshMakes, NoSurface, Bodies, MeshMeans, NoMesh, OfMesh, SetupMeans, defect_plan, mesh_refused_plan, outcome_of, surface_refused_plan}
 use Rattle.ipc_top.specs.Plans.{Plan, plan_of}
 use Rattle.ipc_top.proofs.ActsDone.{due_first}
 use Rattle.ipc_top.proofs.Taking.{OnRefused, IsTextRefusal}
@@ -45,54 +52,117 @@ scene_texts = scene_refusal IsTextRefusal (λ err. record { due = due_first (Say
 pub some_scene : (bytes : List ℕ) → (o : Outcome Scene) × SceneMeans bytes o
 some_scene bytes = (scene_outcome (scene_of_text bytes), refl)
 
--- ---- a mesh
+-- ---- bodies
 
-setup_refusal : (Q : Plan → Type 0) → ((mesh : Mesh) (defect : Defect) → Q (plan_of (Say (defect_line mesh defect) ∷ []) 7)) → (setup : Setup) → OnRefused Q (setup_outcome setup)
-setup_refusal Q q setup = by (first_defect setup)
-  where
-    by : (found : Option Defect) → OnRefused Q (option_map_or (λ defect. Refused (plan_of (Say (defect_line setup.mesh defect) ∷ []) 7)) found (Accepted setup))
-    by None = tt
-    by (Some defect) = q setup.mesh defect
+found_refusal : (Q : Plan → Type 0) → ((setup : Setup) (defect : Defect) → Q (defect_plan setup defect)) → (setup : Setup) (found : Option Defect) → OnRefused Q (outcome_of setup found)
+found_refusal Q seven setup None = tt
+found_refusal Q seven setup (Some defect) = seven setup defect
 
-pub setup_texts : (setup : Setup) → OnRefused IsTextRefusal (setup_outcome setup)
-setup_texts = setup_refusal IsTextRefusal (λ mesh defect. record { due = due_first (Say (defect_line mesh defect)) []; not_ten = λ e. omega arith })
+setup_refusal : (Q : Plan → Type 0) → ((setup : Setup) (defect : Defect) → Q (defect_plan setup defect)) → (setup : Setup) (o : Outcome Setup) → SetupMeans setup o → OnRefused Q o
+setup_refusal Q seven setup o m = subst (λ (x : Outcome Setup). OnRefused Q x) (sym m.same) (found_refusal Q seven setup m.found)
+
+defect_is_told : (setup : Setup) (defect : Defect) → IsTextRefusal (defect_plan setup defect)
+defect_is_told setup defect = record { due = due_first (Say (defect_line setup defect)) []; not_ten = λ e. omega arith }
+
+pub setup_texts : (setup : Setup) (o : Outcome Setup) → SetupMeans setup o → OnRefused IsTextRefusal o
+setup_texts = setup_refusal IsTextRefusal defect_is_told
 
 -- bodies as they were built, and what was found in them
-pub found_of : (mesh : Mesh) (numbers : Numbers) (setup : Setup) (found : Option Defect) → setup ≡ setup_of mesh numbers → found ≡ first_defect setup
-    → option_map_or (λ defect. Refused (plan_of (Say (defect_line setup.mesh defect) ∷ []) 7)) found (Accepted setup) ≡ setup_outcome (setup_of mesh numbers)
-found_of mesh numbers setup found built is =
-    ap (λ (f : Option Defect). option_map_or (λ defect. Refused (plan_of (Say (defect_line setup.mesh defect) ∷ []) 7)) f (Accepted setup)) is ∙ ap setup_outcome built
+pub found_in : (setup held : Setup) (found : Option Defect) → held ≡ setup → IsFirstDefect held found → SetupMeans setup (outcome_of held found)
+found_in setup held found built first = subst (λ (s : Setup). SetupMeans s (outcome_of held found)) built (record { found = found; first = first; same = refl })
 
-pub mesh_refusal : (Q : Plan → Type 0) → Q (plan_of (Say mesh_refused_line ∷ []) 6) → ((mesh : Mesh) (defect : Defect) → Q (plan_of (Say (defect_line mesh defect) ∷ []) 7)) → (numbers : Numbers) (bytes : List ℕ) (o : Outcome Setup) → MeshMeans numbers bytes o → OnRefused Q o
-mesh_refusal Q six seven numbers bytes o (NoMesh none is) = subst (λ (x : Outcome Setup). OnRefused Q x) (sym is) six
-mesh_refusal Q six seven numbers bytes o (OfMesh mesh means is) = subst (λ (x : Outcome Setup). OnRefused Q x) (sym is) (setup_refusal Q seven (setup_of mesh numbers))
+pub some_setup : (setup : Setup) → (o : Outcome Setup) × SetupMeans setup o
+some_setup setup = let found = some_defect setup in (outcome_of setup found.0, record { found = found.0; first = found.1; same = refl })
+
+one_setup : (setup : Setup) (a b : Outcome Setup) → SetupMeans setup a → SetupMeans setup b → a ≡ b
+one_setup setup a b m n = m.same ∙ ap (outcome_of setup) (one_defect setup m.found n.found m.first n.first) ∙ sym n.same
+
+-- ---- a mesh
+
+makes_refusal : (Q : Plan → Type 0) → ((mesh : Mesh) (err : SurfErr) → Q (surface_refused_plan mesh err)) → ((setup : Setup) (defect : Defect) → Q (defect_plan setup defect)) → (numbers : Numbers) (mesh : Mesh) (o : Outcome Setup) → MeshMakes numbers mesh o → OnRefused Q o
+makes_refusal Q six seven numbers mesh o (NoSurface err refused is) = subst (λ (x : Outcome Setup). OnRefused Q x) (sym is) (six mesh err)
+makes_refusal Q six seven numbers mesh o (Bodies surface usable means) = setup_refusal Q seven (setup_of mesh surface numbers) o means
+
+surface_is_told : (mesh : Mesh) (err : SurfErr) → IsTextRefusal (surface_refused_plan mesh err)
+surface_is_told mesh err = record { due = due_first (Say (surface_refused_line mesh err)) []; not_ten = λ e. omega arith }
+
+pub makes_texts : (numbers : Numbers) (mesh : Mesh) (o : Outcome Setup) → MeshMakes numbers mesh o → OnRefused IsTextRefusal o
+makes_texts = makes_refusal IsTextRefusal surface_is_told defect_is_told
+
+-- a mesh makes something
+pub some_making : (numbers : Numbers) (mesh : Mesh) → (o : Outcome Setup) × MeshMakes numbers mesh o
+some_making numbers mesh = let outcome = some_surface_outcome mesh in by outcome.0 outcome.1
+  where
+    by : (outcome : Result SurfaceLists SurfErr) → IsSurfaceOutcome mesh outcome → (o : Outcome Setup) × MeshMakes numbers mesh o
+    by (Ok surface) usable = let found = some_setup (setup_of mesh surface numbers) in (found.0, Bodies surface usable found.1)
+    by (Err err) refused = (Refused (surface_refused_plan mesh err), NoSurface err refused refl)
+
+abbrev err_of : SurfErr → Result SurfaceLists SurfErr → SurfErr
+err_of other (Ok surface) = other
+err_of other (Err err) = err
+
+abbrev surface_of : SurfaceLists → Result SurfaceLists SurfErr → SurfaceLists
+surface_of other (Ok surface) = surface
+surface_of other (Err err) = other
+
+-- a refusal for another cause than want of memory is an outcome
+pub refusal_is_outcome : (mesh : Mesh) (err : SurfErr) → (err ≡ surfaces.Memory → ⊥) → Refuses mesh err → IsSurfaceOutcome mesh (Err err)
+refusal_is_outcome mesh surfaces.Memory other refused = absurd (other refl)
+refusal_is_outcome mesh (surfaces.FaceThrice tets) other refused = refused
+refusal_is_outcome mesh (surfaces.FaceSame tets) other refused = refused
+refusal_is_outcome mesh (surfaces.TooManyTriangles count) other refused = refused
+
+one_making : (numbers : Numbers) (mesh : Mesh) (a b : Outcome Setup) → MeshMakes numbers mesh a → MeshMakes numbers mesh b → a ≡ b
+one_making numbers mesh a b (NoSurface err refused is) (NoSurface err' refused' is') =
+    let same : err ≡ err' = ap (err_of err) (one_surface_outcome mesh (Err err) (Err err') refused refused') in
+    is ∙ ap (λ e. Refused (surface_refused_plan mesh e)) same ∙ sym is'
+one_making numbers mesh a b (NoSurface err refused is) (Bodies surface usable means) = absurd (differ (one_surface_outcome mesh (Err err) (Ok surface) refused usable))
+  where
+    differ : Err err ≡ Ok surface → ⊥
+    differ e = cc
+one_making numbers mesh a b (Bodies surface usable means) (NoSurface err refused is) = absurd (differ (one_surface_outcome mesh (Err err) (Ok surface) refused usable))
+  where
+    differ : Err err ≡ Ok surface → ⊥
+    differ e = cc
+one_making numbers mesh a b (Bodies surface usable means) (Bodies surface' usable' means') =
+    let same : surface ≡ surface' = ap (surface_of surface) (one_surface_outcome mesh (Ok surface) (Ok surface') usable usable') in
+    one_setup (setup_of mesh surface' numbers) a b (subst (λ (s : SurfaceLists). SetupMeans (setup_of mesh s numbers) a) same means) means'
+
+-- ---- a mesh's text
+
+pub mesh_refusal : (Q : Plan → Type 0) → Q mesh_refused_plan → ((mesh : Mesh) (err : SurfErr) → Q (surface_refused_plan mesh err)) → ((setup : Setup) (defect : Defect) → Q (defect_plan setup defect)) → (numbers : Numbers) (bytes : List ℕ) (o : Outcome Setup) → MeshMeans numbers bytes o → OnRefused Q o
+mesh_refusal Q text six seven numbers bytes o (NoMesh none is) = subst (λ (x : Outcome Setup). OnRefused Q x) (sym is) text
+mesh_refusal Q text six seven numbers bytes o (OfMesh mesh means makes) = makes_refusal Q six seven numbers mesh o makes
 
 pub mesh_texts : (numbers : Numbers) (bytes : List ℕ) (o : Outcome Setup) → MeshMeans numbers bytes o → OnRefused IsTextRefusal o
-mesh_texts = mesh_refusal IsTextRefusal
-    (record { due = due_first (Say mesh_refused_line) []; not_ten = λ e. omega arith })
-    (λ mesh defect. record { due = due_first (Say (defect_line mesh defect)) []; not_ten = λ e. omega arith })
+mesh_texts = mesh_refusal IsTextRefusal (record { due = due_first (Say mesh_refused_line) []; not_ten = λ e. omega arith }) surface_is_told defect_is_told
 
--- bodies that are accepted are those of the text's mesh, and have no defect
+-- bodies that are accepted are those of the text's mesh and its surface, and have no defect
 pub record IsAccepted (numbers : Numbers) (bytes : List ℕ) (setup : Setup) : Type 0 where
   pub mesh : Mesh
+  pub surface : SurfaceLists
   pub means : Means bytes mesh
-  pub built : setup ≡ setup_of mesh numbers
-  pub none : first_defect setup ≡ None
+  pub built : setup ≡ setup_of mesh surface numbers
+  pub none : IsFirstDefect setup None
 
 pub accepted : (numbers : Numbers) (bytes : List ℕ) (o : Outcome Setup) (setup : Setup) → MeshMeans numbers bytes o → o ≡ Accepted setup → IsAccepted numbers bytes setup
 accepted numbers bytes o setup (NoMesh none is) e = absurd cc
-accepted numbers bytes o setup (OfMesh mesh means is) e = by (first_defect (setup_of mesh numbers)) refl (sym is ∙ e)
+accepted numbers bytes o setup (OfMesh mesh means makes) e = made makes
   where
-    by : (found : Option Defect) → first_defect (setup_of mesh numbers) ≡ found → option_map_or (λ defect. Refused (plan_of (Say (defect_line mesh defect) ∷ []) 7)) found (Accepted (setup_of mesh numbers)) ≡ Accepted setup → IsAccepted numbers bytes setup
-    by None none e = let same : setup_of mesh numbers ≡ setup = cc in record { mesh = mesh; means = means; built = sym same; none = subst (λ (s : Setup). first_defect s ≡ None) same none }
-    by (Some defect) none e = absurd cc
+    by : (surface : SurfaceLists) (found : Option Defect) → IsFirstDefect (setup_of mesh surface numbers) found → outcome_of (setup_of mesh surface numbers) found ≡ Accepted setup → IsAccepted numbers bytes setup
+    by surface None first e = let same : setup_of mesh surface numbers ≡ setup = cc in record { mesh = mesh; surface = surface; means = means; built = sym same; none = subst (λ (s : Setup). IsFirstDefect s None) same first }
+    by surface (Some defect) first e = absurd cc
+
+    made : MeshMakes numbers mesh o → IsAccepted numbers bytes setup
+    made (NoSurface err refused is) = absurd cc
+    made (Bodies surface usable m) = by surface m.found m.first (sym m.same ∙ e)
 
 pub one_mesh_outcome : (numbers : Numbers) (bytes : List ℕ) (a b : Outcome Setup) → MeshMeans numbers bytes a → MeshMeans numbers bytes b → a ≡ b
 one_mesh_outcome numbers bytes a b (NoMesh none is) (NoMesh none' is') = is ∙ sym is'
-one_mesh_outcome numbers bytes a b (NoMesh none is) (OfMesh mesh means is') = absurd (none mesh means)
-one_mesh_outcome numbers bytes a b (OfMesh mesh means is) (NoMesh none is') = absurd (none mesh means)
-one_mesh_outcome numbers bytes a b (OfMesh mesh means is) (OfMesh mesh' means' is') =
-    is ∙ ap (λ (m : Mesh). setup_outcome (setup_of m numbers)) (one_mesh (rows bytes) mesh mesh' means.first_form means'.first_form) ∙ sym is'
+one_mesh_outcome numbers bytes a b (NoMesh none is) (OfMesh mesh means makes) = absurd (none mesh means)
+one_mesh_outcome numbers bytes a b (OfMesh mesh means makes) (NoMesh none is') = absurd (none mesh means)
+one_mesh_outcome numbers bytes a b (OfMesh mesh means makes) (OfMesh mesh' means' makes') =
+    one_making numbers mesh' a b (subst (λ (m : Mesh). MeshMakes numbers m a) (one_mesh (rows bytes) mesh mesh' means.first_form means'.first_form) makes) makes'
 
 dec_in_box : (places : List V3) → Dec (All IsInTheBox places)
 dec_in_box places = dec_All IsInTheBox (dec_Within BOX_LIMIT) places
@@ -102,12 +172,14 @@ pub some_mesh : (numbers : Numbers) (bytes : List ℕ) → (o : Outcome Setup) �
 some_mesh numbers bytes = by (sections_at (rows bytes)) refl
   where
     refusal : ((mesh : Mesh) → ¬ Means bytes mesh) → (o : Outcome Setup) × MeshMeans numbers bytes o
-    refusal none = (Refused (plan_of (Say mesh_refused_line ∷ []) 6), NoMesh none refl)
+    refusal none = (Refused mesh_refused_plan, NoMesh none refl)
 
     in_box : (read : Nodes × List Tet) → sections_at (rows bytes) ≡ Some read → Dec (All IsInTheBox read.0.places) → (o : Outcome Setup) × MeshMeans numbers bytes o
     in_box read e (yes p) =
         let mesh : Mesh = record { numbers = read.0.numbers; places = read.0.places; tets = read.1 } in
-        (setup_outcome (setup_of mesh numbers), OfMesh mesh (record { first_form = sections_mean (rows bytes) read.0.numbers read.0.places read.1 e p }) refl)
+        let form = sections_mean (rows bytes) read.0.numbers read.0.places read.1 e p in
+        let made = some_making numbers mesh in
+        (made.0, OfMesh mesh (record { first_form = form }) made.1)
     in_box read e (no p) = refusal (λ mesh means. no_mesh-outside (rows bytes) read.0.numbers read.0.places read.1 mesh e p means.first_form)
 
     by : (o : Option (Nodes × List Tet)) → sections_at (rows bytes) ≡ o → (o : Outcome Setup) × MeshMeans numbers bytes o

@@ -6,7 +6,7 @@ use Rattle.ipc_top.specs.declared.acts.Stop.TheVariants as stops
 use Rattle.ipc_top.specs.Acts.{World, Did, Stops}
 use Rattle.ipc_top.specs.CallsFor.{CallsFor}
 use Rattle.ipc_top.specs.Commands.{command_of}
-use Rattle.ipc_top.specs.Motions.{IsUprightThroughout}
+use Rattle.ipc_top.specs.Motions.{IsSafeThroughout}
 use Rattle.ipc_top.specs.Plans.{Plan}
 use Rattle.ipc_top.specs.Roles.{Seen, everywhere}
 
@@ -40,13 +40,13 @@ pub record Closes (plan : Plan) (status : ℕ) (old new : World) : Type 0 where
   pub console : status ≡ 9 → Stops stops.Console plan.acts old new
   pub memory : status ≡ 8 → Stops stops.Memory plan.acts old new
 
--- The promise: what words and files call for ended with this status, and bodies stay upright throughout the motion
--- that its acts show, if they show one.
+-- What words and files call for ended with this status, and bodies are safe throughout the motion that its acts show,
+-- if they show one.
 pub record Ends (words : List (List ℕ)) (seen : Seen) (status : ℕ) (old new : World) : Type 0 where
   pub plan : Plan
   pub called : CallsFor words seen plan
   pub closes : Closes plan status old new
-  pub upright : IfSome plan.motion IsUprightThroughout
+  pub safe : IfSome plan.motion IsSafeThroughout
 
 -- no count of faults rose
 pub record NoFault (old new : World) : Type 0 where

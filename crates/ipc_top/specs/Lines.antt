@@ -1,8 +1,15 @@
 -- The lines of the console. A text is a list of bytes.
-use Rattle.std.specs.Prelude.{◌++◌, ◌||◌, ℕ, ℤ, List, map, codes, decimal, nat_lt, slice_get, slice_index, if◌then◌else◌}
+use Rattle.std.specs.Prelude.{◌++◌, ◌||◌, ℕ, ℤ, List, [], map, flat_map, codes, decimal, nat_lt, slice_get, slice_index, if◌then◌else◌}
 use Rattle.std.specs.Option.{option_map_or}
 use Rattle.std.specs.Fmt.{signed_decimal}
 use Rattle.space3.specs.declared.mesh.Mesh.{Mesh}
+use Rattle.boundary.specs.declared.pairs.Pair.{Pair}
+use Rattle.boundary.specs.declared.pairs.PairKind.{PairKind}
+use Rattle.boundary.specs.declared.pairs.PairKind.TheVariants.{VE, VT, EE, ET}
+use Rattle.boundary.specs.declared.refusal.SurfErr.{SurfErr}
+use Rattle.boundary.specs.declared.refusal.SurfErr.TheVariants as surfaces
+use Rattle.boundary.specs.Pairs.{part_pair}
+use Rattle.surface_mesh.specs.declared.setup.Setup.{Setup}
 use Rattle.mesh_check.specs.declared.defects.Defect.{Defect}
 use Rattle.mesh_check.specs.declared.defects.Defect.TheVariants as defects
 use Rattle.scene_toml.specs.declared.refusal.SceneErr.{SceneErr}
@@ -59,14 +66,49 @@ scene_refused_line (scenes.OutOfRange key value) = out_of_range_line key value
 abbrev pub tet_number : Mesh → ℕ → ℕ
 tet_number mesh tet = option_map_or (λ t. t.number) (slice_get mesh.tets tet) 0
 
--- a mesh is refused for a defect
-abbrev pub defect_line : Mesh → Defect → List ℕ
-defect_line mesh (defects.NotPositive tet) =
-    codes "geometry refused: not positive " ++ decimal (tet_number mesh tet) ++ codes "\n"
-defect_line mesh (defects.Thin tet) = codes "geometry refused: thin " ++ decimal (tet_number mesh tet) ++ codes "\n"
-defect_line mesh (defects.Long tet) = codes "geometry refused: long " ++ decimal (tet_number mesh tet) ++ codes "\n"
-defect_line mesh (defects.TooHeavy node) =
-    codes "geometry refused: too heavy " ++ decimal (slice_index mesh.numbers node) ++ codes "\n"
+-- the number in the file of a node, by its position
+abbrev pub node_number : Mesh → ℕ → ℕ
+node_number mesh node = slice_index mesh.numbers node
+
+-- numbers, each after a space
+abbrev pub spaced : List ℕ → List ℕ
+spaced numbers = flat_map (λ n. codes " " ++ decimal n) numbers
+
+-- a mesh is refused for its surface; want of memory is no refusal
+abbrev pub surface_refused_line : Mesh → SurfErr → List ℕ
+surface_refused_line mesh surfaces.Memory = []
+surface_refused_line mesh (surfaces.FaceThrice tets) =
+    codes "surface refused: face thrice" ++ spaced (map (tet_number mesh) tets) ++ codes "\n"
+surface_refused_line mesh (surfaces.FaceSame tets) =
+    codes "surface refused: face same" ++ spaced (map (tet_number mesh) tets) ++ codes "\n"
+surface_refused_line mesh (surfaces.TooManyTriangles count) =
+    codes "surface refused: triangles " ++ decimal count ++ codes "\n"
+
+abbrev pub kind_word : PairKind → List ℕ
+kind_word VE = codes "VE"
+kind_word VT = codes "VT"
+kind_word EE = codes "EE"
+kind_word ET = codes "ET"
+
+-- a pair of parts that meet, by the numbers of their nodes
+abbrev pub meets_line : Setup → Pair → List ℕ
+meets_line setup pair =
+    let parts = part_pair setup.surface pair in
+    let numbers = λ (nodes : List ℕ). spaced (map (node_number setup.mesh) nodes) in
+    codes "geometry refused: meets " ++ kind_word pair.kind ++ numbers parts.left ++ codes " /" ++ numbers parts.right
+    ++ codes "\n"
+
+-- bodies are refused for a defect
+abbrev pub defect_line : Setup → Defect → List ℕ
+defect_line setup (defects.NotPositive tet) =
+    codes "geometry refused: not positive " ++ decimal (tet_number setup.mesh tet) ++ codes "\n"
+defect_line setup (defects.Thin tet) =
+    codes "geometry refused: thin " ++ decimal (tet_number setup.mesh tet) ++ codes "\n"
+defect_line setup (defects.Long tet) =
+    codes "geometry refused: long " ++ decimal (tet_number setup.mesh tet) ++ codes "\n"
+defect_line setup (defects.TooHeavy node) =
+    codes "geometry refused: too heavy " ++ decimal (node_number setup.mesh node) ++ codes "\n"
+defect_line setup (defects.Meets pair) = meets_line setup pair
 
 -- how a frame ended, and after how many steps
 abbrev pub end_words : FrameEnd → List ℕ

@@ -1,17 +1,20 @@
 -- What comes of a mesh's text.
-use Rattle.std.specs.Prelude.{◌≡◌, ℕ, List, [], ◌∷◌}
+use Rattle.std.specs.Prelude.{◌≡◌, ℕ, List, [], ◌∷◌, Option, Ok, Err}
 use Rattle.std.specs.Option.{option_map_or}
 use Rattle.space3.specs.declared.mesh.Mesh.{Mesh}
+use Rattle.boundary.specs.declared.refusal.SurfErr.{SurfErr}
+use Rattle.boundary.specs.Outcomes.{IsSurfaceOutcome}
+use Rattle.boundary.specs.Surface.{SurfaceLists}
 use Rattle.surface_mesh.specs.declared.setup.Setup.{Setup}
 use Rattle.surface_mesh.specs.declared.materials.Numbers.{Numbers}
 use Rattle.surface_mesh.specs.Setup.{setup_of}
 use Rattle.mesh_check.specs.declared.defects.Defect.{Defect}
-use Rattle.mesh_check.specs.Defects.{first_defect}
+use Rattle.mesh_check.specs.Defects.{IsFirstDefect}
 use Rattle.line_fields.specs.Lines.{rows}
 use Rattle.msh_text.specs.FirstForm.{IsFirstForm}
 use Rattle.ipc_top.specs.Acts.{Say}
 use Rattle.ipc_top.specs.Files.{Outcome, Accepted, Refused}
-use Rattle.ipc_top.specs.Lines.{mesh_refused_line, defect_line}
+use Rattle.ipc_top.specs.Lines.{mesh_refused_line, defect_line, surface_refused_line}
 use Rattle.ipc_top.specs.Plans.{Plan, plan_of}
 
 -- the text of a mesh file means this mesh
@@ -22,18 +25,34 @@ pub record Means (bytes : List ℕ) (mesh : Mesh) : Type 0 where
 abbrev pub mesh_refused_plan : Plan
 mesh_refused_plan = plan_of (Say mesh_refused_line ∷ []) 6
 
--- a mesh is refused for a defect
-abbrev pub defect_plan : Mesh → Defect → Plan
-defect_plan mesh defect = plan_of (Say (defect_line mesh defect) ∷ []) 7
+-- a mesh is refused for its surface
+abbrev pub surface_refused_plan : Mesh → SurfErr → Plan
+surface_refused_plan mesh err = plan_of (Say (surface_refused_line mesh err) ∷ []) 6
 
--- bodies are refused for their first defect, if they have one
-abbrev pub setup_outcome : Setup → Outcome Setup
-setup_outcome setup =
-    option_map_or (λ defect. Refused (defect_plan setup.mesh defect)) (first_defect setup) (Accepted setup)
+-- bodies are refused for a defect
+abbrev pub defect_plan : Setup → Defect → Plan
+defect_plan setup defect = plan_of (Say (defect_line setup defect) ∷ []) 7
 
--- this comes of a text: it means no mesh, or what its mesh makes with these numbers is looked through
+-- bodies are refused for the defect that was found, if there is one
+abbrev pub outcome_of : Setup → Option Defect → Outcome Setup
+outcome_of setup found = option_map_or (λ defect. Refused (defect_plan setup defect)) found (Accepted setup)
+
+-- this comes of bodies: they are looked through for their first defect
+pub record SetupMeans (setup : Setup) (outcome : Outcome Setup) : Type 0 where
+  pub found : Option Defect
+  pub first : IsFirstDefect setup found
+  pub same : outcome ≡ outcome_of setup found
+
+-- this comes of a mesh: its surface is refused, or what the mesh and its surface make with these numbers is looked
+-- through
+pub data MeshMakes (numbers : Numbers) (mesh : Mesh) (outcome : Outcome Setup) : Type 0 where
+  NoSurface : (err : SurfErr) → IsSurfaceOutcome mesh (Err err)
+      → outcome ≡ Refused (surface_refused_plan mesh err) → MeshMakes numbers mesh outcome
+  Bodies : (surface : SurfaceLists) → IsSurfaceOutcome mesh (Ok surface)
+      → SetupMeans (setup_of mesh surface numbers) outcome → MeshMakes numbers mesh outcome
+
+-- this comes of a text: it means no mesh, or what its mesh makes
 pub data MeshMeans (numbers : Numbers) (bytes : List ℕ) (outcome : Outcome Setup) : Type 0 where
   NoMesh : ((mesh : Mesh) → ¬ Means bytes mesh)
       → outcome ≡ Refused mesh_refused_plan → MeshMeans numbers bytes outcome
-  OfMesh : (mesh : Mesh) → Means bytes mesh
-      → outcome ≡ setup_outcome (setup_of mesh numbers) → MeshMeans numbers bytes outcome
+  OfMesh : (mesh : Mesh) → Means bytes mesh → MeshMakes numbers mesh outcome → MeshMeans numbers bytes outcome

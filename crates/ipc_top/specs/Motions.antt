@@ -1,10 +1,10 @@
 -- Bodies on their way: where they start, and the frames that follow.
-use Rattle.std.specs.Prelude.{ℕ, pos, ◌<ℤ◌, List, All}
+use Rattle.std.specs.Prelude.{ℕ, List}
 use Rattle.space3.specs.declared.vectors.V3.{V3}
-use Rattle.space3.specs.Mesh.{rest_determinant}
 use Rattle.surface_mesh.specs.declared.setup.Setup.{Setup}
+use Rattle.surface_mesh.specs.Safety.{IsSafeAt}
 use Rattle.frame_driver.specs.Frames.{Frame}
-use Rattle.frame_driver.specs.Paths.{StayUprightFrom}
+use Rattle.frame_driver.specs.Paths.{FramesAreSafe}
 use Rattle.ipc_top.specs.Acts.{Act}
 
 -- where bodies start: the number of the frame that stands there, its places, the places before it, and the acts that
@@ -21,7 +21,9 @@ pub record Motion : Type 0 where
   pub start : Start
   pub frames : List Frame
 
--- every volume is positive at the start, and at every fraction of every step of every frame
-pub record IsUprightThroughout (motion : Motion) : Type 0 where
-  pub at_start : All (λ tet. pos 0 <ℤ rest_determinant motion.start.places tet.nodes) motion.setup.mesh.tets
-  pub on_steps : StayUprightFrom motion.setup motion.start.places motion.frames
+-- The promise. At the start, at every fraction of every step of every frame, and at the end of each frame: no vertex or
+-- edge of the surface meets an edge or a triangle of it with which it shares no vertex, and every tetrahedron's volume
+-- is positive.
+pub record IsSafeThroughout (motion : Motion) : Type 0 where
+  pub at_start : IsSafeAt motion.setup motion.start.places
+  pub on_frames : FramesAreSafe motion.setup motion.start.places motion.frames

@@ -19,4 +19,4 @@ mod scene;
 mod top;
 mod words;
 
-pub use top::{ipc_run, one_plan, plans_stay_upright};
+pub use top::{ipc_run, one_plan, plans_are_safe};

@@ -1,13 +1,17 @@
 //! The lines of the console.
-ghost use Rattle.std.specs.Prelude.{◌≡◌, ◌++◌, codes, decimal, slice_index, IfOk, OnOk};
+ghost use Rattle.std.specs.Prelude.{◌≡◌, ◌++◌, codes, decimal, map, IfOk, OnOk};
 ghost use Rattle.std.specs.Fmt.{signed_decimal};
+ghost use Rattle.boundary.specs.Pairs.{IsPair};
+ghost use Rattle.mesh_check.specs.Defects.{HasPair};
 ghost use Rattle.ipc_top.specs.Lines as lines;
 
+use boundary::{Pair, PairKind, SurfErr};
 use itoa::Buffer;
 use mesh_check::Defect;
 use scene_toml::SceneErr;
 use space3::Mesh;
 use std::alloc::{AllocError, Global};
+use surface_mesh::Setup;
 
 /// How the program is called.
 pub const USAGE_LINE: &[u8] = b"usage: ipc check DIGITS MESH OUT | run SCENE\n";
@@ -119,7 +123,7 @@ fn tet_number(mesh: &Mesh, tet: u32) -> u32
 
 // The number in the file of a node, by its position.
 fn node_number(mesh: &Mesh, node: u32) -> u32
-    ensures { result ≡ slice_index mesh.now.numbers node }
+    ensures { result ≡ lines.node_number mesh.now node }
 {
     match mesh.numbers.items().get(node as usize) {
         Some(number) => *number,
@@ -127,10 +131,95 @@ fn node_number(mesh: &Mesh, node: u32) -> u32
     }
 }
 
-/// The line of a mesh that is refused for a defect. It names a tetrahedron or a node by its number in the file.
-pub fn defect_line(alloc: Global, mesh: &Mesh, defect: Defect) -> Result<Vec<u8>, AllocError>
-    ensures { IfOk result (λ line. line.items ≡ lines.defect_line mesh.now defect) }
+// Adds the numbers of tetrahedra, each after a space.
+fn add_tets(line: &mut Vec<u8>, mesh: &Mesh, tets: &[u32]) -> Result<(), AllocError>
+    ensures { OnOk result (line.new.items
+        ≡ line.old.items ++ lines.spaced (map (lines.tet_number mesh.now) tets.now)) }
 {
+    for tet in tets {
+        add_spaced(line, tet_number(mesh, *tet))?;
+    }
+    Ok(())
+}
+
+// Adds the numbers of nodes, each after a space.
+fn add_nodes(line: &mut Vec<u8>, mesh: &Mesh, nodes: &[u32]) -> Result<(), AllocError>
+    ensures { OnOk result (line.new.items
+        ≡ line.old.items ++ lines.spaced (map (lines.node_number mesh.now) nodes.now)) }
+{
+    for node in nodes {
+        add_spaced(line, node_number(mesh, *node))?;
+    }
+    Ok(())
+}
+
+// Adds a number after a space.
+fn add_spaced(line: &mut Vec<u8>, n: u32) -> Result<(), AllocError>
+    ensures { OnOk result (line.new.items ≡ line.old.items ++ (codes " " ++ decimal n)) }
+{
+    line.extend_from_slice(b" ")?;
+    add_number(line, u64::from(n))
+}
+
+// A line that ends in the numbers of tetrahedra.
+fn tets_line(alloc: Global, what: &[u8], mesh: &Mesh, tets: &[u32]) -> Result<Vec<u8>, AllocError>
+    ensures { IfOk result (λ line. line.items
+        ≡ what.now ++ lines.spaced (map (lines.tet_number mesh.now) tets.now) ++ codes "\n") }
+{
+    let mut line = Vec::from_slice(alloc, what)?;
+    add_tets(&mut line, mesh, tets)?;
+    line.extend_from_slice(b"\n")?;
+    Ok(line)
+}
+
+/// The line of a mesh that is refused for its surface. It names tetrahedra by their numbers in the file.
+pub fn surface_refused_line(alloc: Global, mesh: &Mesh, err: SurfErr) -> Result<Vec<u8>, AllocError>
+    ensures { IfOk result (λ line. line.items ≡ lines.surface_refused_line mesh.now err) }
+{
+    match err {
+        SurfErr::Memory => Ok(Vec::new(alloc)),
+        SurfErr::FaceThrice { tets } => {
+            tets_line(alloc, b"surface refused: face thrice", mesh, &tets)
+        }
+        SurfErr::FaceSame { tets } => tets_line(alloc, b"surface refused: face same", mesh, &tets),
+        SurfErr::TooManyTriangles { count } => {
+            numbered_line(alloc, b"surface refused: triangles ", count)
+        }
+    }
+}
+
+fn kind_word(kind: PairKind) -> &'static [u8]
+    ensures { result.now ≡ lines.kind_word kind }
+{
+    match kind {
+        PairKind::VE => b"VE",
+        PairKind::VT => b"VT",
+        PairKind::EE => b"EE",
+        PairKind::ET => b"ET",
+    }
+}
+
+// The line of a pair of parts that meet.
+fn meets_line(alloc: Global, setup: &Setup, pair: Pair) -> Result<Vec<u8>, AllocError>
+    requires { IsPair setup.now.surface pair }
+    ensures { IfOk result (λ line. line.items ≡ lines.meets_line setup.now pair) }
+{
+    let mut line = Vec::from_slice(alloc, b"geometry refused: meets ")?;
+    line.extend_from_slice(kind_word(pair.kind))?;
+    add_nodes(&mut line, &setup.mesh, setup.surface.first_nodes(pair))?;
+    line.extend_from_slice(b" /")?;
+    add_nodes(&mut line, &setup.mesh, setup.surface.second_nodes(pair))?;
+    line.extend_from_slice(b"\n")?;
+    Ok(line)
+}
+
+/// The line of bodies that are refused for a defect. It names a tetrahedron, a node or the nodes of two parts by their
+/// numbers in the file.
+pub fn defect_line(alloc: Global, setup: &Setup, defect: Defect) -> Result<Vec<u8>, AllocError>
+    requires { HasPair setup.now.surface defect }
+    ensures { IfOk result (λ line. line.items ≡ lines.defect_line setup.now defect) }
+{
+    let mesh = &setup.mesh;
     match defect {
         Defect::NotPositive { tet } => numbered_line(
             alloc,
@@ -152,6 +241,7 @@ pub fn defect_line(alloc: Global, mesh: &Mesh, defect: Defect) -> Result<Vec<u8>
             b"geometry refused: too heavy ",
             u64::from(node_number(mesh, node)),
         ),
+        Defect::Meets { pair } => meets_line(alloc, setup, pair),
     }
 }
 

@@ -1,17 +1,20 @@
 //! The mesh of a file, and the bodies that it makes.
-ghost use Rattle.std.specs.Prelude.{◌≡◌, IfOk};
+ghost use Rattle.std.specs.Prelude.{IfOk, Err};
+ghost use Rattle.boundary.specs.Refusals.{Refuses};
+ghost use Rattle.surface_mesh.specs.declared.materials.Numbers.{Numbers};
 ghost use Rattle.shelf_io.specs.Shelf.{ShelfState};
 ghost use Rattle.space3.specs.Mesh.{IsSound};
 ghost use Rattle.surface_mesh.specs.Materials.{AreNumbers};
-ghost use Rattle.surface_mesh.specs.Setup.{setup_of};
+ghost use Rattle.surface_mesh.specs.Setup.{HasSurface, setup_of};
 ghost use Rattle.ipc_top.specs.Acts.{world};
-ghost use Rattle.ipc_top.specs.Meshes.{MeshMeans, setup_outcome};
+ghost use Rattle.ipc_top.specs.Meshes.{MeshMakes, MeshMeans, SetupMeans};
 ghost use Rattle.ipc_top.specs.Calls.Files.{Takes, LooksThrough};
-ghost use Rattle.ipc_top.specs.Calls.Jobs.{AreSturdy};
+ghost use Rattle.ipc_top.specs.Calls.Jobs.{AreFit};
 
 use crate::acts::Stop;
 use crate::files::take_file;
-use crate::refusals::{End, refuse_defect, refuse_mesh};
+use crate::refusals::{End, refuse_defect, refuse_mesh, refuse_surface};
+use boundary::{SurfErr, Surface};
 use mesh_check::first_defect;
 use msh_text::{ReadMshErr, read_msh};
 use shelf_io::{Shelf, Sink};
@@ -23,7 +26,7 @@ use surface_mesh::{Numbers, Setup};
 pub const MESH_LIMIT: u64 = 268_435_456;
 
 /// Takes and reads the mesh of a file and makes its bodies, or says why it is refused: 6 for a text that isn't in the
-/// first form, 7 for a defect, 10 for a file that is too long.
+/// first form and for a surface that is refused, 7 for a defect, 10 for a file that is too long.
 pub fn take_mesh<S: Shelf, C: Sink>(
     alloc: Global,
     shelf: &mut S,
@@ -35,7 +38,7 @@ pub fn take_mesh<S: Shelf, C: Sink>(
     ensures takes { Takes name.now MESH_LIMIT (MeshMeans numbers) result
         (world (S.state shelf.old) (C.state console.old))
         (world (S.state shelf.new) (C.state console.new)) }
-    ensures sturdy { IfOk result AreSturdy }
+    ensures fit { IfOk result AreFit }
 {
     let bytes = take_file(alloc, shelf, console, name, MESH_LIMIT)?;
     bodies_of_bytes(alloc, console, &bytes, numbers)
@@ -51,7 +54,7 @@ fn bodies_of_bytes<C: Sink>(
     requires { AreNumbers numbers }
     ensures looks { (s : ShelfState) → LooksThrough (MeshMeans numbers bytes.now) result
         (world s (C.state console.old)) (world s (C.state console.new)) }
-    ensures sturdy { IfOk result AreSturdy }
+    ensures fit { IfOk result AreFit }
 {
     match read_msh(alloc, bytes) {
         Ok(mesh) => bodies_of_mesh(alloc, console, mesh, numbers),
@@ -60,7 +63,7 @@ fn bodies_of_bytes<C: Sink>(
     }
 }
 
-// Makes the bodies of a mesh, and looks for a defect.
+// Makes the surface of a mesh, and then its bodies.
 fn bodies_of_mesh<C: Sink>(
     alloc: Global,
     console: &mut C,
@@ -69,16 +72,54 @@ fn bodies_of_mesh<C: Sink>(
 ) -> Result<Setup, End>
     requires sound { IsSound mesh }
     requires in_range { AreNumbers numbers }
-    ensures looks { (s : ShelfState) →
-        LooksThrough (λ outcome. outcome ≡ setup_outcome (setup_of mesh numbers)) result
+    ensures looks { (s : ShelfState) → LooksThrough (MeshMakes numbers mesh) result
         (world s (C.state console.old)) (world s (C.state console.new)) }
-    ensures sturdy { IfOk result AreSturdy }
+    ensures fit { IfOk result AreFit }
 {
-    let Ok(setup) = Setup::build(alloc, mesh, numbers) else {
+    match Surface::build(alloc, &mesh) {
+        Ok(surface) => bodies_with_surface(alloc, console, mesh, surface, numbers),
+        Err(err) => Err(end_without_surface(alloc, console, &mesh, err)),
+    }
+}
+
+// Ends the command where a mesh has no surface.
+fn end_without_surface<C: Sink>(alloc: Global, console: &mut C, mesh: &Mesh, err: SurfErr) -> End
+    requires { Refuses mesh.now err }
+    ensures { (numbers : Numbers) (s : ShelfState) → LooksThrough (MeshMakes numbers mesh.now) (Err result)
+        (world s (C.state console.old)) (world s (C.state console.new)) }
+{
+    match err {
+        SurfErr::Memory => End::Stopped(Stop::Memory),
+        SurfErr::FaceThrice { .. } => refuse_surface(alloc, console, mesh, err),
+        SurfErr::FaceSame { .. } => refuse_surface(alloc, console, mesh, err),
+        SurfErr::TooManyTriangles { .. } => refuse_surface(alloc, console, mesh, err),
+    }
+}
+
+// Makes the bodies of a mesh with its surface, and looks for a defect.
+fn bodies_with_surface<C: Sink>(
+    alloc: Global,
+    console: &mut C,
+    mesh: Mesh,
+    surface: Surface,
+    numbers: Numbers,
+) -> Result<Setup, End>
+    requires sound { IsSound mesh }
+    requires surface { HasSurface mesh surface }
+    requires in_range { AreNumbers numbers }
+    ensures looks { (s : ShelfState) →
+        LooksThrough (SetupMeans (setup_of mesh surface numbers)) result
+        (world s (C.state console.old)) (world s (C.state console.new)) }
+    ensures fit { IfOk result AreFit }
+{
+    let Ok(setup) = Setup::build(alloc, mesh, surface, numbers) else {
         return Err(End::Stopped(Stop::Memory));
     };
-    match first_defect(&setup) {
-        Some(defect) => Err(refuse_defect(alloc, console, &setup.mesh, defect)),
+    let Ok(found) = first_defect(alloc, &setup) else {
+        return Err(End::Stopped(Stop::Memory));
+    };
+    match found {
+        Some(defect) => Err(refuse_defect(alloc, console, &setup, defect)),
         None => Ok(setup),
     }
 }

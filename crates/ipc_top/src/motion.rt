@@ -7,7 +7,7 @@ ghost use Rattle.ipc_top.specs.Lines.{accepted_line};
 ghost use Rattle.ipc_top.specs.Moves.{AreFrames, Moves, first_start};
 ghost use Rattle.ipc_top.specs.Calls.Acts.{Does};
 ghost use Rattle.ipc_top.specs.Calls.Frames.{ShowsFrames};
-ghost use Rattle.ipc_top.specs.Calls.Jobs.{AreSturdy, job_of};
+ghost use Rattle.ipc_top.specs.Calls.Jobs.{AreFit, job_of};
 ghost use Rattle.ipc_top.specs.Calls.Plans.{FollowsOne};
 
 use crate::acts::{Stop, say};
@@ -31,7 +31,7 @@ pub fn show_motion<S: Shelf, C: Sink>(
     job: &Job,
     setup: Setup,
 ) -> Result<u8, End>
-    requires { AreSturdy setup }
+    requires { AreFit setup }
     ensures { let held = job_of job.now setup.numbers in
         FollowsOne (Moves held setup (first_start held setup)) result
         (world (S.state shelf.old) (C.state console.old))
@@ -81,7 +81,7 @@ fn show_path<S: Shelf, C: Sink>(
     job: &Job,
     setup: Setup,
 ) -> Result<bool, Stop>
-    requires { AreSturdy setup }
+    requires { AreFit setup }
     ensures { let held = job_of job.now setup.numbers in (frames : List Frame)
         → AreFrames held setup (first_start held setup) frames
         → ShowsFrames held setup setup.mesh.places frames result

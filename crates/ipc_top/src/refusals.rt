@@ -1,6 +1,7 @@
 //! What ends a command before its work: a refusal, which is one line with its status, or an act that was stopped.
 ghost use Rattle.std.specs.Prelude.{◌≡◌, ◌∷◌, [], ◌+◌, ◌<◌, ◌^◌, List, ℕ, IfOk, Err};
 ghost use Rattle.shelf_io.specs.Shelf.{ShelfState};
+ghost use Rattle.mesh_check.specs.Defects.{HasPair};
 ghost use Rattle.ipc_top.specs.Acts.{Say, world};
 ghost use Rattle.ipc_top.specs.CallsFor.{usage_plan};
 ghost use Rattle.ipc_top.specs.Ends.{IsPlain};
@@ -9,12 +10,17 @@ ghost use Rattle.ipc_top.specs.Plans.{plan_of};
 ghost use Rattle.ipc_top.specs.Calls.Plans.{Follows};
 
 use crate::acts::{Stop, say};
-use crate::lines::{MESH_REFUSED_LINE, USAGE_LINE, defect_line, scene_refused_line, too_long_line};
+use crate::lines::{
+    MESH_REFUSED_LINE, USAGE_LINE, defect_line, scene_refused_line, surface_refused_line,
+    too_long_line,
+};
+use boundary::SurfErr;
 use mesh_check::Defect;
 use scene_toml::SceneErr;
 use shelf_io::Sink;
 use space3::Mesh;
 use std::alloc::{AllocError, Global};
+use surface_mesh::Setup;
 
 /// What ended a command before its work was done.
 #[derive(Clone, Copy, Debug, PartialEq, Eq)]
@@ -96,11 +102,21 @@ pub fn refuse_mesh<C: Sink>(console: &mut C) -> End
     refuse_with(console, MESH_REFUSED_LINE, 6)
 }
 
-/// Refuses a mesh for a defect.
-pub fn refuse_defect<C: Sink>(alloc: Global, console: &mut C, mesh: &Mesh, defect: Defect) -> End
+/// Refuses a mesh for its surface.
+pub fn refuse_surface<C: Sink>(alloc: Global, console: &mut C, mesh: &Mesh, err: SurfErr) -> End
     ensures { (s : ShelfState) →
-        Follows (plan_of (Say (specs.defect_line mesh.now defect) ∷ []) 7) (Err result)
+        Follows (plan_of (Say (specs.surface_refused_line mesh.now err) ∷ []) 6) (Err result)
         (world s (C.state console.old)) (world s (C.state console.new)) }
 {
-    refuse_if_made(console, defect_line(alloc, mesh, defect), 7)
+    refuse_if_made(console, surface_refused_line(alloc, mesh, err), 6)
+}
+
+/// Refuses bodies for a defect.
+pub fn refuse_defect<C: Sink>(alloc: Global, console: &mut C, setup: &Setup, defect: Defect) -> End
+    requires { HasPair setup.now.surface defect }
+    ensures { (s : ShelfState) →
+        Follows (plan_of (Say (specs.defect_line setup.now defect) ∷ []) 7) (Err result)
+        (world s (C.state console.old)) (world s (C.state console.new)) }
+{
+    refuse_if_made(console, defect_line(alloc, setup, defect), 7)
 }

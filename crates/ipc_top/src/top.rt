@@ -5,7 +5,7 @@ ghost use Rattle.ipc_top.specs.Acts.{world};
 ghost use Rattle.ipc_top.specs.CallsFor.{CallsFor};
 ghost use Rattle.ipc_top.specs.Commands.{command_of};
 ghost use Rattle.ipc_top.specs.Ends.{IsOneOf, IsStatus, IsInput, Ends, Completes};
-ghost use Rattle.ipc_top.specs.Motions.{IsUprightThroughout};
+ghost use Rattle.ipc_top.specs.Motions.{IsSafeThroughout};
 ghost use Rattle.ipc_top.specs.Plans.{Plan};
 ghost use Rattle.ipc_top.specs.Roles.{Seen, everywhere};
 ghost use Rattle.ipc_top.specs.Calls.Plans.{Obeys, status_of};
@@ -32,8 +32,8 @@ use std::alloc::Global;
 /// | 3 | the shelf failed at a file that was to be read, or has none of that name |
 /// | 4 | the shelf failed at a frame's file |
 /// | 5 | the scene is refused |
-/// | 6 | the mesh text isn't in the first form |
-/// | 7 | the mesh has a defect: a tetrahedron that isn't positive, is thin or long, or a node that is too heavy |
+/// | 6 | the mesh text isn't in the first form, or the mesh has no surface |
+/// | 7 | the mesh has a defect: a tetrahedron that isn't positive, is thin or long, a node that is too heavy, or a pair of parts of the surface that meet |
 /// | 8 | memory was wanting |
 /// | 9 | the console failed |
 /// | 10 | the scene file has more than 1048576 bytes, or the mesh file more than 268435456 |
@@ -44,7 +44,7 @@ pub fn ipc_run<S: Shelf, C: Sink>(
     console: &mut C,
 ) -> u8
     // Where the files are told, or the words call for none: what they call for was done, or was stopped, and bodies
-    // stay upright throughout the motion that was shown.
+    // are safe throughout the motion that was shown.
     ensures told { (files : Files)
         → IsInput (map string_bytes words.now) (S.state shelf.old).files files
         → Ends (map string_bytes words.now) (everywhere files) result
@@ -118,9 +118,9 @@ pub fn one_plan()
         CallsFor words seen a → CallsFor words seen b → a ≡ b }
 {}
 
-/// A law: in the motion of whatever words and files call for, every volume is positive at the start and at every
-/// fraction of every step of every frame.
-pub fn plans_stay_upright()
+/// A law: in the motion of whatever words and files call for, no pair meets and every volume is positive, at the start
+/// and at every fraction of every step of every frame.
+pub fn plans_are_safe()
     ensures { (words : List (List ℕ)) (seen : Seen) (plan : Plan) →
-        CallsFor words seen plan → IfSome plan.motion IsUprightThroughout }
+        CallsFor words seen plan → IfSome plan.motion IsSafeThroughout }
 {}

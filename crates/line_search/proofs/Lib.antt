@@ -1,2 +1,6 @@
+mod AllPairs
+mod Certificates
+mod HalvingCounts
 pub mod OneStep
-pub mod Upright
+mod PairMoves
+pub mod SafeSteps

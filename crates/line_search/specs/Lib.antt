@@ -1,4 +1,5 @@
 pub mod Accepted
 pub mod Calls
+pub mod Decisions
+pub mod Poses
 pub mod Steps
-pub mod Upright

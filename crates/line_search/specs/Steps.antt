@@ -7,14 +7,14 @@ use Rattle.space3.specs.Moved.{moved_by}
 use Rattle.surface_mesh.specs.declared.setup.Setup.{Setup}
 use Rattle.surface_mesh.specs.Setup.{IsSetup}
 use Rattle.surface_mesh.specs.Sturdy.{IsSturdy}
-use Rattle.potential_sum.specs.Terms.{FrameTerms, StandFor}
+use Rattle.potential_sum.specs.Terms.{FrameTerms, KeptTerms, StandFor}
 use Rattle.potential_sum.specs.Potential.{potential}
 use Rattle.line_search.specs.declared.step.Step.{Step}
 use Rattle.line_search.specs.Accepted.{IsFirstAccepted}
-use Rattle.line_search.specs.Upright.{IsPose}
+use Rattle.line_search.specs.Poses.{IsPose}
 
 -- bodies that are ready to go on from the places x: built and sturdy, with terms that stand for them, at a pose
-pub record AreReady (setup : Setup) (terms : FrameTerms) (x : List V3) : Type 0 where
+pub record AreReady (setup : Setup) (terms : KeptTerms) (x : List V3) : Type 0 where
   pub built : IsSetup setup
   pub sturdy : IsSturdy setup
   pub stand : StandFor setup terms

@@ -3,10 +3,12 @@ ghost use Rattle.std.specs.Prelude.{◌≡◌, ◌≤◌, ◌↔◌, IfOk, IfSom
 ghost use Rattle.space3.specs.declared.ways.TheConstants.{HALVING_LIMIT};
 ghost use Rattle.potential_sum.specs.Potential.{potential};
 ghost use Rattle.line_search.specs.Accepted.{HasNoAccepted, IsAccepted};
-ghost use Rattle.line_search.specs.Calls.Halvings.{IsFirstHalving, IsHalving, Moves};
+ghost use Rattle.line_search.specs.Calls.Halvings.{CountsHalving, IsFirstHalving, IsHalving, Moves};
+ghost use Rattle.line_search.specs.Decisions.{RisesByHalvings};
 ghost use Rattle.line_search.specs.Steps.{AreReady, IsDirection};
 
 use crate::allowed::lower_if_allowed;
+use plane_cut::Tally;
 use potential_sum::Terms;
 use space3::{HALVING_LIMIT, Places, V3, halved};
 use std::alloc::{AllocError, Global};
@@ -23,7 +25,8 @@ pub(crate) struct Halving {
     pub lower: i128,
 }
 
-// The least accepted halving of a direction, or None exactly where none is accepted. The potential at x is `upper`.
+// The least accepted halving of a direction, or None exactly where none is accepted. The potential at x is `upper`. The
+// tally counts plane decisions.
 pub(crate) fn first_halving(
     alloc: Global,
     setup: &Setup,
@@ -31,24 +34,28 @@ pub(crate) fn first_halving(
     x: &Places,
     direction: &[V3],
     upper: i128,
+    tally: &mut Tally,
 ) -> Result<Option<Halving>, AllocError>
     requires ready { AreReady setup.now terms.now x.now }
     requires direction { IsDirection x.now direction.now }
-    requires upper { upper ≡ potential setup.now terms.now x.now }
+    requires upper { upper ≡ potential setup.now terms.now.frame x.now }
     ensures first { IfOk result (λ found.
-        IfSome found (IsFirstHalving setup.now terms.now x.now direction.now)) }
+        IfSome found (IsFirstHalving setup.now terms.now.frame x.now direction.now)) }
     ensures exhausted { IfOk result (λ found.
-        IfNone found (HasNoAccepted setup.now terms.now x.now direction.now)) }
+        IfNone found (HasNoAccepted setup.now terms.now.frame x.now direction.now)) }
+    ensures tally { RisesByHalvings setup.now terms.now.frame x.now direction.now tally.old.n tally.new.n }
 {
+    let _count = tally.n;
     for half in 0..HALVING_LIMIT + 1 {
-        if let Some(halving) = accepted_halving(alloc, setup, terms, x, direction, half, upper)? {
+        let found = accepted_halving(alloc, setup, terms, x, direction, half, upper, tally)?;
+        if let Some(halving) = found {
             return Ok(Some(halving));
         }
     }
     Ok(None)
 }
 
-// A halving, or None exactly where it isn't accepted. The potential at x is `upper`.
+// A halving, or None exactly where it isn't accepted. The potential at x is `upper`. The tally counts plane decisions.
 fn accepted_halving(
     alloc: Global,
     setup: &Setup,
@@ -57,15 +64,17 @@ fn accepted_halving(
     direction: &[V3],
     half: u8,
     upper: i128,
+    tally: &mut Tally,
 ) -> Result<Option<Halving>, AllocError>
     requires ready { AreReady setup.now terms.now x.now }
     requires direction { IsDirection x.now direction.now }
     requires few { half ≤ HALVING_LIMIT }
-    requires upper { upper ≡ potential setup.now terms.now x.now }
+    requires upper { upper ≡ potential setup.now terms.now.frame x.now }
     ensures accepted { IfOk result (λ found.
-        IsSome found ↔ IsAccepted setup.now terms.now x.now direction.now half) }
+        IsSome found ↔ IsAccepted setup.now terms.now.frame x.now direction.now half) }
     ensures halving { IfOk result (λ found.
-        IfSome found (IsHalving setup.now terms.now x.now direction.now half)) }
+        IfSome found (IsHalving setup.now terms.now.frame x.now direction.now half)) }
+    ensures tally { CountsHalving setup.now x.now direction.now half tally.old.n tally.new.n }
 {
     if !moves(direction, half) {
         return Ok(None);
@@ -73,7 +82,7 @@ fn accepted_halving(
     let Some(y) = x.moved(alloc, direction, half)? else {
         return Ok(None);
     };
-    let Some(lower) = lower_if_allowed(setup, terms, x, &y, upper) else {
+    let Some(lower) = lower_if_allowed(alloc, setup, terms, x, &y, upper, tally)? else {
         return Ok(None);
     };
     Ok(Some(Halving {

@@ -2,6 +2,7 @@
 #![tactic(auto)]
 
 mod allowed;
+mod apart;
 mod halvings;
 mod step;
 

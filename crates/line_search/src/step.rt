@@ -2,10 +2,13 @@
 ghost use Rattle.std.specs.Prelude.{◌≡◌, IfOk, IfSome, IfNone};
 ghost use Rattle.potential_sum.specs.Potential.{potential};
 ghost use Rattle.line_search.specs.Accepted.{HasNoAccepted};
+ghost use Rattle.line_search.specs.Decisions.{RisesByHalvings};
+ghost use Rattle.line_search.specs.Poses.{IsPose};
 ghost use Rattle.line_search.specs.Steps.{AreReady, IsDirection, IsFirstStep};
-ghost use Rattle.line_search.specs.Upright.{IsPose, StaysUpright};
+ghost use Rattle.surface_mesh.specs.Safety.{IsSafeStep};
 
 use crate::halvings::first_halving;
+use plane_cut::Tally;
 use potential_sum::Terms;
 use space3::Places;
 use std::alloc::{AllocError, Global};
@@ -29,9 +32,11 @@ pub struct Step {
 /// The step of the least accepted halving of a direction, from 0 to 20, or None exactly where none is accepted.
 ///
 /// A halving is accepted where it moves some node, all nodes stay in the box, no component of an edge gets above
-/// 65536 grid units, each tetrahedron is certified to keep a positive volume all the way, and the potential gets
-/// lower. One vector per node in grid units, each component below 2^21 in absolute value. The potential at `x` is
-/// `upper`: after a step it is that step's `lower`.
+/// 65536 grid units, each pair of parts of the surface that must not meet is certified to stay apart and each
+/// tetrahedron to keep a positive volume all the way, and the potential gets lower. One vector per node in grid units,
+/// each component below 2^21 in absolute value. The potential at `x` is `upper`: after a step it is that step's
+/// `lower`. The tally counts plane decisions: at most 511 for each pair whose boxes touch, in each halving that comes
+/// as far as the certificates.
 pub fn first_step(
     alloc: Global,
     setup: &Setup,
@@ -39,19 +44,21 @@ pub fn first_step(
     x: &Places,
     direction: DirList,
     upper: i128,
+    tally: &mut Tally,
 ) -> Result<Option<Step>, AllocError>
     requires ready { AreReady setup.now terms.now x.now }
     requires direction { IsDirection x.now direction }
-    requires upper { upper ≡ potential setup.now terms.now x.now }
+    requires upper { upper ≡ potential setup.now terms.now.frame x.now }
     ensures first { IfOk result (λ step.
-        IfSome step (IsFirstStep setup.now terms.now x.now direction)) }
+        IfSome step (IsFirstStep setup.now terms.now.frame x.now direction)) }
     ensures exhausted { IfOk result (λ step.
-        IfNone step (HasNoAccepted setup.now terms.now x.now direction)) }
-    // At every fraction of the step each volume is positive.
-    ensures upright { IfOk result (λ step. IfSome step (λ s. StaysUpright setup.now x.now s.places)) }
+        IfNone step (HasNoAccepted setup.now terms.now.frame x.now direction)) }
+    // At every fraction of the step no pair meets, and each volume is positive.
+    ensures safe { IfOk result (λ step. IfSome step (λ s. IsSafeStep setup.now x.now s.places)) }
     ensures pose { IfOk result (λ step. IfSome step (λ s. IsPose setup.now s.places)) }
+    ensures tally { RisesByHalvings setup.now terms.now.frame x.now direction tally.old.n tally.new.n }
 {
-    match first_halving(alloc, setup, terms, x, direction.items(), upper)? {
+    match first_halving(alloc, setup, terms, x, direction.items(), upper, tally)? {
         None => Ok(None),
         Some(halving) => Ok(Some(Step {
             half: halving.half,

@@ -1,8 +1,10 @@
 -- What holds of each element of a list that is mapped, joined or cut, and a search of a list.
 use Rattle.std.proofs.Common.{◌≡◌, ◌∙◌, ℕ, suc, ◌<◌, ◌≤◌, List, [], ◌∷◌, ◌++◌, ◌⊎◌, inl, inr, map, take, length, get_or, length-take, refl, sym, subst, arith}
 use Rattle.std.specs.Prelude.{All, Any}
+use Rattle.std.proofs.lemmas.Bool.{cases_lt}
 use Rattle.std.proofs.lemmas.List.{get_or-take}
-use Rattle.std.proofs.lemmas.List.Elements.{All-nil, All-cons, All-head, All-tail}
+use Rattle.std.proofs.lemmas.List.Elements.{All-nil, All-cons, All-get_or, All-head, All-tail}
+use Rattle.std.proofs.Math.ListN.{get_or-eq_default}
 
 -- what holds of each element of a mapped list holds of each image
 pub All-map_back : {X Y : Type 0} (P : Y → Type 0) (f : X → Y) (xs : List X) → All P (map f xs) → All (λ x. P (f x)) xs
@@ -42,3 +44,7 @@ all_or_any P Q f (x ∷ xs) =
       ]
       | inr q ↦ inr (0, x, omega arith, refl, q)
     ]
+
+-- what holds of each element and of the default holds of each read
+pub at_any : {X : Type 0} (P : X → Type 0) (xs : List X) (i : ℕ) (d : X) → All P xs → P d → P (get_or xs i d)
+at_any P xs i d h k = elim (cases_lt i (length xs)) [ inl l ↦ All-get_or P xs i d l h | inr l ↦ subst P (sym (get_or-eq_default xs d l)) k ]

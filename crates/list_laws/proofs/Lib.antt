@@ -1,7 +1,10 @@
 pub mod Chains
+pub mod CountedWrites
 pub mod Decisions
 pub mod Elements
 pub mod Filters
+pub mod Firsts
+pub mod Fours
 pub mod Images
 pub mod Membership
 pub mod PairsOfElements

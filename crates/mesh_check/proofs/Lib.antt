@@ -1,1 +1,3 @@
 pub mod NoDefect
+pub mod OneDefect
+pub mod StandingPairs

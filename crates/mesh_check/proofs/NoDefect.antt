@@ -12,7 +12,7 @@ use Rattle.surface_mesh.specs.Setup.{IsSetup}
 use Rattle.surface_mesh.specs.Sturdy.{IsSturdy}
 use Rattle.surface_mesh.proofs.SetupFacts.{masses_are_not_negative}
 use Rattle.mesh_check.specs.declared.defects.Defect.TheVariants as defects
-use Rattle.mesh_check.specs.Defects.{first_not_positive, first_thin, first_long, first_heavy, first_defect}
+use Rattle.mesh_check.specs.Defects.{first_not_positive, first_thin, first_long, first_heavy, first_flaw}
 
 -- bodies without a defect are sturdy
 pub sturdy : (s : Setup) → IsSetup s → first_thin s ≡ None → first_long s ≡ None → first_heavy s ≡ None → IsSturdy s
@@ -31,6 +31,6 @@ sturdy s h thin long heavy = record {
     rests : All (λ rest. LEAST_REST ≤ℤ rest) s.rest
     rests = All-weaker (λ rest. int_lt rest LEAST_REST ≡ false) (λ rest. LEAST_REST ≤ℤ rest) (λ rest. at_most LEAST_REST rest) s.rest (none_found (λ rest. int_lt rest LEAST_REST) s.rest thin)
 
--- where no tetrahedron has a defect, the first is that of the first heavy node
-pub last_defect : (s : Setup) → first_not_positive s ≡ None → first_thin s ≡ None → first_long s ≡ None → first_defect s ≡ option_map (λ node. defects.TooHeavy node) (first_heavy s)
-last_defect s positive thick short = rw (positive, thick, short) refl
+-- where no tetrahedron has a defect, the first flaw is that of the first heavy node
+pub last_flaw : (s : Setup) → first_not_positive s ≡ None → first_thin s ≡ None → first_long s ≡ None → first_flaw s ≡ option_map (λ node. defects.TooHeavy node) (first_heavy s)
+last_flaw s positive thick short = rw (positive, thick, short) refl

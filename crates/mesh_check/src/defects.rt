@@ -1,16 +1,19 @@
 //! Defects of a setup, in the order in which they are looked for.
-ghost use Rattle.std.specs.Prelude.{◌≡◌, ◌^◌, ◌<◌, None, pos, not, int_lt, int_le, position, All, IfSome};
+ghost use Rattle.std.specs.Prelude.{◌≡◌, ◌^◌, ◌<◌, pos, not, int_lt, int_le, position, All, IfOk, IfNone, IfSome};
 ghost use Rattle.space3.specs.Mesh.{HasNodes};
 ghost use Rattle.surface_mesh.specs.declared.sturdy.TheConstants.{LEAST_REST, LONGEST_REST, MOST_MASS};
 ghost use Rattle.surface_mesh.specs.Edges.{has_edges_within};
 ghost use Rattle.surface_mesh.specs.Setup.{IsSetup};
-ghost use Rattle.surface_mesh.specs.Sturdy.{IsSturdy};
-ghost use Rattle.mesh_check.specs.Defects.{first_defect};
+ghost use Rattle.surface_mesh.specs.Sturdy.{IsFit, IsSturdy};
+ghost use Rattle.mesh_check.specs.Defects.{HasPair, IsFirstDefect, first_flaw};
 
+use crate::meeting::first_meeting;
+use boundary::Pair;
 use space3::{Places, Tet};
+use std::alloc::{AllocError, Global};
 use surface_mesh::{LEAST_REST, LONGEST_REST, MOST_MASS, Setup, has_edges_within};
 
-/// Why a mesh is no start. Tetrahedra and nodes are positions in the mesh's lists.
+/// Why a mesh is no start. Tetrahedra and nodes are positions in the mesh's lists, a pair is one of its surface.
 #[derive(Clone, Copy, PartialEq, Eq, Debug)]
 pub enum Defect {
     /// The rest determinant is 0 or less.
@@ -21,14 +24,34 @@ pub enum Defect {
     Long { tet: u32 },
     /// The mass is above 2^58.
     TooHeavy { node: u32 },
+    /// The two parts of a pair have a common point.
+    Meets { pair: Pair },
 }
 
 /// The first defect: the first tetrahedron that isn't positive, else the first thin one, else the first long one,
-/// else the first node that is too heavy.
-pub fn first_defect(setup: &Setup) -> Option<Defect>
-    requires built { IsSetup setup.now }
-    ensures first { result ≡ first_defect setup.now }
-    ensures sturdy { result ≡ None → IsSturdy setup.now }
+/// else the first node that is too heavy, else the first pair, in the pair order, whose parts meet where the mesh
+/// stands. Where there is none, the bodies are fit to start.
+pub fn first_defect(alloc: Global, setup: &Setup) -> Result<Option<Defect>, AllocError>
+    requires { IsSetup setup.now }
+    ensures first { IfOk result (IsFirstDefect setup.now) }
+    ensures fit { IfOk result (λ found. IfNone found (IsFit setup.now)) }
+    ensures pair { IfOk result (λ found. IfSome found (HasPair setup.now.surface)) }
+{
+    if let Some(flaw) = first_flaw(setup) {
+        return Ok(Some(flaw));
+    }
+    match first_meeting(alloc, setup)? {
+        Some(pair) => Ok(Some(Defect::Meets { pair })),
+        None => Ok(None),
+    }
+}
+
+// The first defect of a tetrahedron or a node.
+fn first_flaw(setup: &Setup) -> Option<Defect>
+    requires { IsSetup setup.now }
+    ensures first { result ≡ first_flaw setup.now }
+    ensures sturdy { IfNone result (IsSturdy setup.now) }
+    ensures pair { IfSome result (HasPair setup.now.surface) }
 {
     let rest = setup.rest.items();
     if let Some(tet) = short_position(first_not_positive(rest)) {

@@ -2,5 +2,8 @@
 #![tactic(auto)]
 
 mod defects;
+mod laws;
+mod meeting;
 
 pub use defects::{Defect, first_defect};
+pub use laws::one_first_defect;

@@ -128,3 +128,10 @@ cut_same b z h = within z (2 ^ b - 1) (omega arith)
   where
     within : (z : ℤ) (n : ℕ) → unsigned_abs z ≤ n → int_max (neg_ℤ (pos n)) (int_min z (pos n)) ≡ z
     within z n h = omega (arith, ints, clamps)
+
+-- cuts keep the order and the sign
+pub cut_mono : (b : ℕ) (y z : ℤ) → y ≤ℤ z → cut_of b y ≤ℤ cut_of b z
+cut_mono b y z h = omega (arith, ints, clamps)
+
+pub cut-nonneg : (b : ℕ) (z : ℤ) → pos 0 ≤ℤ z → pos 0 ≤ℤ cut_of b z
+cut-nonneg b z h = omega (arith, ints, clamps)

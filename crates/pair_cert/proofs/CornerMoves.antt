@@ -4,11 +4,11 @@ use Rattle.std.specs.List.{zip}
 use Rattle.std.proofs.lemmas.List.{get_or-map, get_or-take, length-take, length-map}
 use Rattle.std.proofs.lemmas.Slice.Zip.{get_or-zip, length-zip}
 use Rattle.space3.specs.declared.spots.Part.{Part}
-use Rattle.space3.specs.Spots.{points}
+use Rattle.space3.specs.Spots.{StaysInTheBox, points}
 use Rattle.space3.specs.Vectors.{origin, Within}
 use Rattle.list_laws.proofs.Elements.{All-take_at}
 use Rattle.pair_cert.specs.Calls.Moves.{IsNear}
-use Rattle.pair_cert.specs.Parts.{StaysInTheBox, move_between, moves_of, still}
+use Rattle.pair_cert.specs.Parts.{move_between, moves_of, still}
 
 -- as many moves as corners
 pub length-moves_of : (part : Part) → length (moves_of part) ≡ min (length (points part.start)) (length (points part.end))

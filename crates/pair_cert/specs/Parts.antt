@@ -1,10 +1,9 @@
 -- A part of a mesh in motion, as a list of moving points.
-use Rattle.std.specs.Prelude.{List, map, All}
+use Rattle.std.specs.Prelude.{List, map}
 use Rattle.std.specs.List.{zip}
 use Rattle.space3.specs.declared.vectors.V3.{V3}
 use Rattle.space3.specs.declared.spots.Part.{Part}
 use Rattle.space3.specs.Vectors.{origin}
-use Rattle.space3.specs.Box.{IsInTheBox}
 use Rattle.space3.specs.Spots.{points}
 use Rattle.safe_motion.specs.declared.motion.Move.{Move}
 
@@ -19,8 +18,3 @@ still = record { start = origin; end = origin }
 -- the corners of the part, each with its places at the start and at the end
 abbrev pub moves_of : Part → List Move
 moves_of part = map move_between (zip (points part.start) (points part.end))
-
--- all corners are in the box, at the start and at the end
-pub record StaysInTheBox (part : Part) : Type 0 where
-  pub start : All IsInTheBox (points part.start)
-  pub end : All IsInTheBox (points part.end)

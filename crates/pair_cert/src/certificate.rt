@@ -9,7 +9,8 @@ ghost use Rattle.safe_motion.specs.Meeting.{MeetAt};
 ghost use Rattle.safe_motion.specs.Moments.{IsFraction};
 ghost use Rattle.pair_cert.specs.Calls.Moves.{HasRoom, moves_within};
 ghost use Rattle.pair_cert.specs.Calls.RelativeMoves.{moves_in};
-ghost use Rattle.pair_cert.specs.Parts.{StaysInTheBox, moves_of};
+ghost use Rattle.space3.specs.Spots.{StaysInTheBox};
+ghost use Rattle.pair_cert.specs.Parts.{moves_of};
 ghost use Rattle.pair_cert.specs.Tallies.{RisesAtMost, intervals_within};
 
 use crate::halves::half_moves;

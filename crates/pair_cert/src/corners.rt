@@ -1,8 +1,8 @@
 //! The corners of a part in motion.
 ghost use Rattle.std.specs.Prelude.{◌≡◌, ◌<◌, length, slice_index_or};
-ghost use Rattle.space3.specs.Spots.{points};
+ghost use Rattle.space3.specs.Spots.{StaysInTheBox, points};
 ghost use Rattle.pair_cert.specs.Calls.Moves.{IsNear};
-ghost use Rattle.pair_cert.specs.Parts.{StaysInTheBox, moves_of, still};
+ghost use Rattle.pair_cert.specs.Parts.{moves_of, still};
 
 use safe_motion::Move;
 use space3::{Part, Spot, V3};

@@ -6,7 +6,8 @@ ghost use Rattle.safe_motion.specs.declared.depth.TheConstants.{DEPTH};
 ghost use Rattle.pair_cert.specs.declared.moves.TheConstants.{MOVE_LIMIT};
 ghost use Rattle.pair_cert.specs.Calls.Moves.{HasRoom, IsNear, moves_from, relative_move, relative_moves};
 ghost use Rattle.pair_cert.specs.Calls.RelativeMoves.{moves_in};
-ghost use Rattle.pair_cert.specs.Parts.{StaysInTheBox, moves_of};
+ghost use Rattle.space3.specs.Spots.{StaysInTheBox};
+ghost use Rattle.pair_cert.specs.Parts.{moves_of};
 
 use crate::corners::{corner, corner_count};
 use crate::moves::{MOVE_LIMIT, RelativeMoves};

@@ -16,7 +16,7 @@ use Rattle.list_laws.proofs.Elements.{All-map_back, All-append_left, All-append_
 use Rattle.whole_laws.proofs.Ring.{ring, v, ◌⊕◌, ◌⊗◌}
 use Rattle.plane_cut.specs.Planes.{HasPlane}
 use Rattle.plane_cut.specs.Calls.Differences.{differences, differences_from}
-use Rattle.plane_cut.proofs.Linear.{mixed, same_vector}
+use Rattle.space3.proofs.Combinations.{mixed, same_vector}
 use Rattle.plane_cut.proofs.Elimination.{plane_or_zero}
 use Rattle.plane_cut.proofs.Weights.{mixed_weights, length-mixed, sum-mixed, weighted-mixed, some_mixed, IsOne, each_one}
 use Rattle.safe_motion.proofs.Separation.{meeting_excludes_separation}

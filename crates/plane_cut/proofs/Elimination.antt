@@ -10,7 +10,8 @@ use Rattle.space3.specs.Vectors.{origin, dot_product}
 use Rattle.list_laws.proofs.Elements.{All-append_left, All-append_right}
 use Rattle.whole_laws.proofs.Ring.{ring, v, num, neg, ◌⊕◌, ◌⊗◌}
 use Rattle.plane_cut.specs.Planes.{IsPlane, HasPlane}
-use Rattle.plane_cut.proofs.Linear.{mixed, dot-mixed, same_vector, along, Axis, axis_x, axis_y, axis_z}
+use Rattle.space3.proofs.Combinations.{mixed, dot-mixed, same_vector}
+use Rattle.plane_cut.proofs.Linear.{along, Axis, axis_x, axis_y, axis_z}
 use Rattle.plane_cut.proofs.Step.{Flat, Agree, Holds, serve, by_sign}
 
 -- the vectors of which M holds are closed under combinations with positive factors

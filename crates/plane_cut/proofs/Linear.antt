@@ -1,21 +1,9 @@
 -- Products and combinations of vectors, and the three axes.
 use Rattle.std.proofs.Common.{◌≡◌, ℤ, pos, ◌+ℤ◌, ◌*ℤ◌, [], ◌∷◌, refl, ap, ◌∙◌}
 use Rattle.space3.specs.declared.vectors.V3.{V3}
-use Rattle.space3.specs.Vectors.{vector, sum_of, multiple, dot_product}
+use Rattle.space3.specs.Vectors.{vector, dot_product}
+use Rattle.space3.proofs.Combinations.{mixed}
 use Rattle.whole_laws.proofs.Ring.{ring, v, num, ◌⊕◌, ◌⊗◌}
-
--- i·a + j·b
-abbrev pub mixed : ℤ → ℤ → V3 → V3 → V3
-mixed i j a b = sum_of (multiple i a) (multiple j b)
-
-pub dot-mixed : (n a b : V3) (i j : ℤ) → dot_product n (mixed i j a b) ≡ i *ℤ dot_product n a +ℤ j *ℤ dot_product n b
-dot-mixed n a b i j =
-    ring (n.x ∷ n.y ∷ n.z ∷ a.x ∷ a.y ∷ a.z ∷ b.x ∷ b.y ∷ b.z ∷ i ∷ j ∷ [])
-    (v 0 ⊗ (v 9 ⊗ v 3 ⊕ v 10 ⊗ v 6) ⊕ v 1 ⊗ (v 9 ⊗ v 4 ⊕ v 10 ⊗ v 7) ⊕ v 2 ⊗ (v 9 ⊗ v 5 ⊕ v 10 ⊗ v 8))
-    (v 9 ⊗ (v 0 ⊗ v 3 ⊕ v 1 ⊗ v 4 ⊕ v 2 ⊗ v 5) ⊕ v 10 ⊗ (v 0 ⊗ v 6 ⊕ v 1 ⊗ v 7 ⊕ v 2 ⊗ v 8)) tt
-
-pub same_vector : (a b : V3) → a.x ≡ b.x → a.y ≡ b.y → a.z ≡ b.z → a ≡ b
-same_vector a b e f g i = vector (e i) (f i) (g i)
 
 pub mixed-dot : (a b r : V3) (i j : ℤ) → dot_product (mixed i j a b) r ≡ i *ℤ dot_product a r +ℤ j *ℤ dot_product b r
 mixed-dot a b r i j =

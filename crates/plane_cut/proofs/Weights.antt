@@ -9,7 +9,7 @@ use Rattle.space3.specs.Vectors.{origin}
 use Rattle.space3.specs.Weights.{weighted_sum}
 use Rattle.whole_laws.proofs.Ring.{ring, v, ◌⊕◌, ◌⊗◌}
 use Rattle.plane_cut.specs.Planes.{HasPlane, HasWeights}
-use Rattle.plane_cut.proofs.Linear.{mixed, same_vector}
+use Rattle.space3.proofs.Combinations.{mixed, same_vector}
 use Rattle.plane_cut.proofs.Elimination.{IsClosed, plane_or_zero}
 
 -- i·us + j·ws

@@ -1,21 +1,59 @@
--- How long a gradient is, how great its numbers are, and where those of a node stand.
-use Rattle.std.proofs.Common.{◌≡◌, ◌∙◌, ℕ, ◌+◌, ◌*◌, ◌<◌, ◌^◌, ℤ, pos, ◌*ℤ◌, true, false, List, [], ◌∷◌, length, take, get_or, refl, ap, sym, arith, length-append, zero-add, lit≤}
-use Rattle.std.specs.Prelude.{All, if◌then◌else◌, slice_index_or}
+-- The gradient and the diagonal from what was added up; how long they are, how great their numbers are, and where those of
+-- a node stand.
+use Rattle.std.proofs.Common.{◌≡◌, ◌∙◌, ℕ, suc, ◌+◌, ◌*◌, ◌<◌, ◌≤◌, ◌^◌, ℤ, true, false, List, [], ◌∷◌, ◌++◌, length, map, take, get_or, refl, ap, sym, arith, length-append, zero-add}
+use Rattle.std.specs.Prelude.{◌==◌, All, Bool, if◌then◌else◌, slice_index_or, zip}
 use Rattle.std.specs.List.{flat_map, range_with_len}
-use Rattle.std.proofs.lemmas.List.{length-take-le}
-use Rattle.std.proofs.lemmas.List.Elements.{All-nil, All-cons, All-append}
+use Rattle.std.proofs.lemmas.List.{length-map, length-take-le}
+use Rattle.std.proofs.lemmas.List.Elements.{All-nil, All-cons, All-head, All-tail, All-append, All-map}
 use Rattle.std.proofs.lemmas.List.FromFn.{length-range_with_len, get_or-range_with_len}
 use Rattle.std.proofs.lemmas.List.Concat.{get_or-flat_map}
-use Rattle.num_q.proofs.Bounds.{cut_below}
-use Rattle.num_q.specs.Rounding.{cut_of, floor_of}
+use Rattle.std.proofs.lemmas.Simd.{map-map}
+use Rattle.std.proofs.lemmas.Slice.Zip.{length-zip}
+use Rattle.list_laws.proofs.CountedWrites.{All-counted, get_or-counted}
 use Rattle.space3.specs.declared.vectors.V3.{V3}
-use Rattle.space3.specs.Vectors.{AtMost, dot_product}
-use Rattle.space3.specs.Mesh.{place_of}
+use Rattle.space3.specs.declared.vectors.W3.{W3}
+use Rattle.space3.specs.Vectors.{AtMost, Within, origin}
+use Rattle.space3.proofs.Bounds.{within_more, within-sum}
+use Rattle.vec_q.specs.Rows.{components}
 use Rattle.surface_mesh.specs.declared.setup.Setup.{Setup}
-use Rattle.surface_mesh.specs.Setup.{node_positions}
-use Rattle.potential_sum.specs.Inertia.{inertia_gradient, inertia_pull, offset_of}
+use Rattle.surface_mesh.specs.Setup.{IsSetup, node_positions}
+use Rattle.potential_sum.specs.declared.bodies.Body.{Body}
+use Rattle.potential_sum.specs.declared.pulls.Quantity.{Quantity}
+use Rattle.potential_sum.specs.Bodies.{ElasticTet, elastic_of, elastic_tets}
+use Rattle.potential_sum.specs.Calls.Inertia.{part_at}
+use Rattle.potential_sum.specs.Calls.Kept.{elastic_in}
+use Rattle.potential_sum.specs.Calls.Sums.{node_numbers, node_sums, nothing, numbers_of, vector_at, wide}
+use Rattle.potential_sum.specs.Contributions.{Contribution, contributions, elastic_contribution, inertia_contribution, pull_at, stiffness_at, vector_total}
+use Rattle.potential_sum.specs.Diagonals.{cut_entries, diagonal, diagonal_at, ones}
+use Rattle.potential_sum.specs.Potential.{gradient, gradient_at}
 use Rattle.potential_sum.specs.Terms.{FrameTerms}
-use Rattle.potential_sum.specs.Potential.{components, gradient, gradient_at, inertia_at, mass_at}
+use Rattle.potential_sum.proofs.Energies.{cut-small}
+use Rattle.potential_sum.proofs.Parts.{All-zip_right, elastic-pulls-weak, inertia-pulls-weak}
+use Rattle.potential_sum.proofs.PullSums.{length-node_sums}
+
+-- ---- from what is kept
+pub contributions-kept : (s : Setup) (frame : FrameTerms) (x : List V3) (bodies : List Body) → length x ≡ length s.mesh.numbers → map elastic_in bodies ≡ elastic_tets s →
+    map (part_at s.mass frame.targets x) (range_with_len 0 (length x)) ++ map (λ body. elastic_contribution x (elastic_in body)) bodies ≡ contributions s frame x
+contributions-kept s frame x bodies e kept =
+    λ i. map (inertia_contribution s frame x) (range_with_len 0 (e i)) ++ (sym (map-map (elastic_contribution x) elastic_in bodies) ∙ ap (map (elastic_contribution x)) kept) i
+
+flat_map_agree : {A : Type 0} (f g : ℕ → List A) (xs : List ℕ) → All (λ x. f x ≡ g x) xs → flat_map f xs ≡ flat_map g xs
+flat_map_agree f g [] h = refl
+flat_map_agree f g (x ∷ xs) h = λ i. All-head (λ y. f y ≡ g y) x xs h i ++ flat_map_agree f g xs (All-tail (λ y. f y ≡ g y) x xs h) i
+
+pub numbers-sums : (q : Quantity) (s : Setup) (frame : FrameTerms) (x : List V3) (sums : List W3) → length x ≡ length s.mesh.numbers → sums ≡ node_sums q (length x) (contributions s frame x) →
+    flat_map (λ node. numbers_of q (slice_index_or s.fixed node false) (slice_index_or sums node nothing)) (range_with_len 0 (length sums)) ≡ node_numbers q s frame x
+numbers-sums q s frame x sums e made =
+    let parts = contributions s frame x in
+    let n = length s.mesh.numbers in
+    let sum : ℕ → W3 = λ node. wide (vector_total (map (vector_at q node) parts)) in
+    let f : ℕ → List ℤ = λ node. numbers_of q (slice_index_or s.fixed node false) (slice_index_or sums node nothing) in
+    let g : ℕ → List ℤ = λ node. numbers_of q (slice_index_or s.fixed node false) (sum node) in
+    let same : sums ≡ node_sums q n parts = made ∙ ap (λ (count : ℕ). node_sums q count parts) e in
+    let long : length sums ≡ n = ap length same ∙ length-node_sums q n parts in
+    ap (λ (count : ℕ). flat_map f (range_with_len 0 count)) long
+    ∙ flat_map_agree f g (range_with_len 0 n) (All-counted (λ node. f node ≡ g node) n (λ node h.
+    ap (numbers_of q (slice_index_or s.fixed node false)) (ap (λ (list : List W3). get_or list node nothing) same ∙ get_or-counted sum n node nothing h)))
 
 -- ---- lists of three, joined
 length-threes : {A : Type 0} (f : ℕ → List A) (xs : List ℕ) → ((x : ℕ) → length (f x) ≡ 3) → length (flat_map f xs) ≡ 3 * length xs
@@ -31,58 +69,110 @@ get_or-threes f n i k d h l m =
     let before : length (flat_map f (take i nodes)) ≡ 3 * i = length-threes f (take i nodes) h ∙ ap (λ j. 3 * j) (length-take-le i nodes (omega (arith, there))) in
     ap (λ j. get_or (flat_map f nodes) (j + k) d) (sym before) ∙ get_or-flat_map f nodes i k 0 d there inside ∙ ap (λ j. get_or (f j) k d) at
 
--- ---- the gradient
-three : (s : Setup) (terms : FrameTerms) (places : List V3) (node : ℕ) → length (gradient_at s terms places node) ≡ 3
-three s terms places node =
-    elim (slice_index_or s.fixed node false) as (λ b. length (if b then pos 0 ∷ pos 0 ∷ pos 0 ∷ [] else components (inertia_gradient (mass_at s node) (place_of places node) (place_of terms.targets node))) ≡ 3) [
-      | true ↦ refl
-      | false ↦ refl
-    ]
-
 -- three numbers per node
-pub length-gradient : (s : Setup) (terms : FrameTerms) (places : List V3) → length (gradient s terms places) ≡ 3 * length s.mesh.numbers
-length-gradient s terms places =
-    length-threes (gradient_at s terms places) (node_positions s.mesh) (three s terms places) ∙ ap (λ n. 3 * n) (length-range_with_len 0 (length s.mesh.numbers))
+pub length-gradient : (s : Setup) (frame : FrameTerms) (places : List V3) → length (gradient s frame places) ≡ 3 * length s.mesh.numbers
+length-gradient s frame places =
+    length-threes (λ node. components (gradient_at s frame places node)) (node_positions s.mesh) (λ node. refl) ∙ ap (λ n. 3 * n) (length-range_with_len 0 (length s.mesh.numbers))
 
 -- those of a node stand at 3 times its position
-pub gradient_stands : (s : Setup) (terms : FrameTerms) (places : List V3) (node k : ℕ) (d : ℤ) → node < length s.mesh.numbers → k < 3 → get_or (gradient s terms places) (3 * node + k) d ≡ get_or (gradient_at s terms places node) k d
-gradient_stands s terms places node k d = get_or-threes (gradient_at s terms places) (length s.mesh.numbers) node k d (three s terms places)
+pub gradient_stands : (s : Setup) (frame : FrameTerms) (places : List V3) (node k : ℕ) (d : ℤ) → node < length s.mesh.numbers → k < 3 → get_or (gradient s frame places) (3 * node + k) d ≡ get_or (components (gradient_at s frame places node)) k d
+gradient_stands s frame places node k d = get_or-threes (λ n. components (gradient_at s frame places n)) (length s.mesh.numbers) node k d (λ n. refl)
 
-abbrev IsSmall : ℤ → Type 0
-IsSmall = AtMost (2 ^ 90)
-
-small : (z : ℤ) → IsSmall (cut_of 90 z)
-small z = record { bound = omega (arith, cut_below 90 z) }
-
-pull_is_small : (mass offset : ℤ) → IsSmall (inertia_pull mass offset)
-pull_is_small mass offset = small (floor_of (mass *ℤ offset) (pos 128))
-
-all_three : (a b c : ℤ) → IsSmall a → IsSmall b → IsSmall c → All IsSmall (a ∷ b ∷ c ∷ [])
-all_three a b c h k l = All-cons IsSmall a (b ∷ c ∷ []) h (All-cons IsSmall b (c ∷ []) k (All-cons IsSmall c [] l (All-nil IsSmall)))
-
--- each of the three numbers of a node is at most 2^90
-pub gradient_at_is_small : (s : Setup) (terms : FrameTerms) (places : List V3) (node : ℕ) → All (AtMost (2 ^ 90)) (gradient_at s terms places node)
-gradient_at_is_small s terms places node =
-    let mass : ℤ = mass_at s node in
-    let offset : V3 = offset_of (place_of places node) (place_of terms.targets node) in
-    elim (slice_index_or s.fixed node false) as (λ b. All IsSmall (if b then pos 0 ∷ pos 0 ∷ pos 0 ∷ [] else components (inertia_gradient (mass_at s node) (place_of places node) (place_of terms.targets node)))) [
-      | true ↦ all_three (pos 0) (pos 0) (pos 0) none none none
-      | false ↦ all_three (inertia_pull mass offset.x) (inertia_pull mass offset.y) (inertia_pull mass offset.z) (pull_is_small mass offset.x) (pull_is_small mass offset.y) (pull_is_small mass offset.z)
-    ]
+-- ---- sizes
+vector_total-size : (b : ℕ) (vs : List V3) → All (Within b) vs → Within (length vs * b) (vector_total vs)
+vector_total-size b [] h = record { x = record { bound = omega arith }; y = record { bound = omega arith }; z = record { bound = omega arith } }
+vector_total-size b (v ∷ vs) h =
+    within-sum b (length vs * b) (length (v ∷ vs) * b) v (vector_total vs) (All-head (Within b) v vs h) (vector_total-size b vs (All-tail (Within b) v vs h)) (grown (length vs) b)
   where
-    none : IsSmall (pos 0)
-    none = record { bound = lit≤ tt }
+    grown : (n b : ℕ) → b + n * b ≤ (suc n) * b
+    grown n b = omega arith
+
+-- no pull is strong, and there are four at most
+pub record IsFaint (part : Contribution) : Type 0 where
+  pub few : length part.pulls ≤ 4
+  pub weak : All (Within (2 ^ 90)) part.pulls
+
+pull_at-size : (node : ℕ) (part : Contribution) → IsFaint part → Within (2 ^ 92) (pull_at node part)
+pull_at-size node part h =
+    let pairs = zip part.nodes part.pulls in
+    let f : ℕ × V3 → V3 = λ pull. if pull.0 == node then pull.1 else origin in
+    within_more (length (map f pairs) * 2 ^ 90) (2 ^ 92) (vector_total (map f pairs))
+    (vector_total-size (2 ^ 90) (map f pairs) (All-map (Within (2 ^ 90)) f pairs (λ k d l. chosen (_ == node) _ (All-zip_right (Within (2 ^ 90)) part.nodes part.pulls h.weak k d l))))
+    (omega (arith, length-map pairs f, length-zip part.nodes part.pulls, h.few))
+  where
+    chosen : (b : Bool) (v : V3) → Within (2 ^ 90) v → Within (2 ^ 90) (if b then v else origin)
+    chosen true v h = h
+    chosen false v h = record { x = record { bound = omega arith }; y = record { bound = omega arith }; z = record { bound = omega arith } }
+
+inertia-faint : (s : Setup) (frame : FrameTerms) (places : List V3) (node : ℕ) → IsFaint (inertia_contribution s frame places node)
+inertia-faint s frame places node = record { few = omega arith; weak = inertia-pulls-weak s.mass frame.targets places node }
+
+elastic-faint : (places : List V3) (tet : ElasticTet) → IsFaint (elastic_contribution places tet)
+elastic-faint places tet = record { few = omega arith; weak = elastic-pulls-weak places tet }
+
+all_faint : (s : Setup) (frame : FrameTerms) (places : List V3) → All IsFaint (contributions s frame places)
+all_faint s frame places =
+    All-append IsFaint (map (inertia_contribution s frame places) (node_positions s.mesh)) (map (elastic_contribution places) (elastic_tets s))
+    (All-map IsFaint (inertia_contribution s frame places) (node_positions s.mesh) (λ k d l. inertia-faint s frame places _))
+    (All-map IsFaint (elastic_contribution places) (elastic_tets s) (λ k d l. elastic-faint places _))
+
+many : (s : Setup) (frame : FrameTerms) (places : List V3) → IsSetup s → length (contributions s frame places) ≤ 81920
+many s frame places built =
+    let nodes = map (inertia_contribution s frame places) (node_positions s.mesh) in
+    let tets = map (elastic_contribution places) (elastic_tets s) in
+    omega (arith, length-append nodes tets, length-map (node_positions s.mesh) (inertia_contribution s frame places), length-range_with_len 0 (length s.mesh.numbers), length-map (elastic_tets s) (elastic_contribution places), length-map s.mesh.tets (elastic_of s), built.mesh_is_sound.few_nodes, built.mesh_is_sound.few_tets)
+
+-- each of the three numbers of a node is at most 2^109
+gradient_at_is_small : (s : Setup) (frame : FrameTerms) (places : List V3) (node : ℕ) → IsSetup s → Within (2 ^ 109) (gradient_at s frame places node)
+gradient_at_is_small s frame places node built = either (slice_index_or s.fixed node false)
+  where
+    pulls : List V3
+    pulls = map (pull_at node) (contributions s frame places)
+
+    free : Within (2 ^ 109) (vector_total pulls)
+    free =
+        within_more (length pulls * 2 ^ 92) (2 ^ 109) (vector_total pulls)
+        (vector_total-size (2 ^ 92) pulls (All-map (Within (2 ^ 92)) (pull_at node) (contributions s frame places) (λ k d l. pull_at-size node _ (all_faint s frame places k d l))))
+        (omega (arith, length-map (contributions s frame places) (pull_at node), many s frame places built))
+
+    either : (fixed : Bool) → Within (2 ^ 109) (if fixed then origin else vector_total pulls)
+    either true = record { x = record { bound = omega arith }; y = record { bound = omega arith }; z = record { bound = omega arith } }
+    either false = free
 
 -- each number of a gradient is
-pub gradient_is_small : (s : Setup) (terms : FrameTerms) (places : List V3) → All (AtMost (2 ^ 90)) (gradient s terms places)
-gradient_is_small s terms places = joined (node_positions s.mesh)
+pub gradient_is_small : (s : Setup) (frame : FrameTerms) (places : List V3) → IsSetup s → All (AtMost (2 ^ 109)) (gradient s frame places)
+gradient_is_small s frame places built = joined (node_positions s.mesh)
   where
-    joined : (nodes : List ℕ) → All IsSmall (flat_map (gradient_at s terms places) nodes)
-    joined [] = All-nil IsSmall
-    joined (node ∷ nodes) = All-append IsSmall (gradient_at s terms places node) (flat_map (gradient_at s terms places) nodes) (gradient_at_is_small s terms places node) (joined nodes)
+    three : (v : V3) → Within (2 ^ 109) v → All (AtMost (2 ^ 109)) (components v)
+    three v h = All-cons (AtMost (2 ^ 109)) v.x (v.y ∷ v.z ∷ []) h.x (All-cons (AtMost (2 ^ 109)) v.y (v.z ∷ []) h.y (All-cons (AtMost (2 ^ 109)) v.z [] h.z (All-nil (AtMost (2 ^ 109)))))
 
--- what a node adds to the potential is at most 2^90
-pub inertia_is_small : (s : Setup) (terms : FrameTerms) (places : List V3) (node : ℕ) → AtMost (2 ^ 90) (inertia_at s terms places node)
-inertia_is_small s terms places node =
-    let offset : V3 = offset_of (place_of places node) (place_of terms.targets node) in
-    small (floor_of (mass_at s node *ℤ dot_product offset offset) (pos 65536))
+    joined : (nodes : List ℕ) → All (AtMost (2 ^ 109)) (flat_map (λ node. components (gradient_at s frame places node)) nodes)
+    joined [] = All-nil (AtMost (2 ^ 109))
+    joined (node ∷ nodes) =
+        All-append (AtMost (2 ^ 109)) (components (gradient_at s frame places node)) (flat_map (λ n. components (gradient_at s frame places n)) nodes)
+        (three (gradient_at s frame places node) (gradient_at_is_small s frame places node built)) (joined nodes)
+
+-- ---- the diagonal
+pub length-diagonal : (s : Setup) (frame : FrameTerms) (places : List V3) → length (diagonal s frame places) ≡ 3 * length s.mesh.numbers
+length-diagonal s frame places =
+    length-threes (λ node. components (diagonal_at s frame places node)) (node_positions s.mesh) (λ node. refl) ∙ ap (λ n. 3 * n) (length-range_with_len 0 (length s.mesh.numbers))
+
+pub diagonal_stands : (s : Setup) (frame : FrameTerms) (places : List V3) (node k : ℕ) (d : ℤ) → node < length s.mesh.numbers → k < 3 → get_or (diagonal s frame places) (3 * node + k) d ≡ get_or (components (diagonal_at s frame places node)) k d
+diagonal_stands s frame places node k d = get_or-threes (λ n. components (diagonal_at s frame places n)) (length s.mesh.numbers) node k d (λ n. refl)
+
+-- each entry is at most 2^62
+pub diagonal_is_small : (s : Setup) (frame : FrameTerms) (places : List V3) → All (AtMost (2 ^ 62)) (diagonal s frame places)
+diagonal_is_small s frame places = joined (node_positions s.mesh)
+  where
+    three : (v : V3) → Within (2 ^ 62) v → All (AtMost (2 ^ 62)) (components v)
+    three v h = All-cons (AtMost (2 ^ 62)) v.x (v.y ∷ v.z ∷ []) h.x (All-cons (AtMost (2 ^ 62)) v.y (v.z ∷ []) h.y (All-cons (AtMost (2 ^ 62)) v.z [] h.z (All-nil (AtMost (2 ^ 62)))))
+
+    either : (fixed : Bool) (v : V3) → Within (2 ^ 62) (if fixed then ones else cut_entries v)
+    either true v = record { x = record { bound = omega arith }; y = record { bound = omega arith }; z = record { bound = omega arith } }
+    either false v = record { x = cut-small 62 v.x; y = cut-small 62 v.y; z = cut-small 62 v.z }
+
+    joined : (nodes : List ℕ) → All (AtMost (2 ^ 62)) (flat_map (λ node. components (diagonal_at s frame places node)) nodes)
+    joined [] = All-nil (AtMost (2 ^ 62))
+    joined (node ∷ nodes) =
+        All-append (AtMost (2 ^ 62)) (components (diagonal_at s frame places node)) (flat_map (λ n. components (diagonal_at s frame places n)) nodes)
+        (three (diagonal_at s frame places node) (either (slice_index_or s.fixed node false) (vector_total (map (stiffness_at node) (contributions s frame places))))) (joined nodes)

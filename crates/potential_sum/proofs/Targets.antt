@@ -4,7 +4,7 @@ use Rattle.std.specs.List.{zip}
 use Rattle.std.proofs.lemmas.List.{length-map}
 use Rattle.std.proofs.lemmas.Slice.Zip.{length-zip}
 use Rattle.space3.specs.declared.vectors.V3.{V3}
-use Rattle.potential_sum.specs.Inertia.{target_of}
+use Rattle.inertia_term.specs.Inertia.{target_of}
 use Rattle.potential_sum.specs.Terms.{targets_of}
 
 -- one for each place

@@ -3,10 +3,11 @@ use Rattle.std.specs.Prelude.{◌≡◌, List, map, zip, length, All}
 use Rattle.space3.specs.declared.vectors.V3.{V3}
 use Rattle.space3.specs.Vectors.{Within}
 use Rattle.surface_mesh.specs.declared.setup.Setup.{Setup}
-use Rattle.potential_sum.specs.declared.terms.TheConstants.{FARTHEST_TARGET}
-use Rattle.potential_sum.specs.Inertia.{target_of}
+use Rattle.inertia_term.specs.declared.target.TheConstants.{FARTHEST_TARGET}
+use Rattle.inertia_term.specs.Inertia.{target_of}
+use Rattle.potential_sum.specs.Bodies.{ElasticTet, elastic_tets}
 
--- the terms of a frame: one target per node, in 1/256 grid unit
+-- what a frame gives the potential: one target per node, in 1/256 grid unit
 pub record FrameTerms : Type 0 where
   pub targets : List V3
 
@@ -18,7 +19,13 @@ targets_of gravity now before = map (λ node. target_of gravity node.0 node.1) (
 abbrev pub terms_of : Setup → (now before : List V3) → FrameTerms
 terms_of setup now before = record { targets = targets_of setup.numbers.gravity now before }
 
--- the terms are of this setup, and no target is too far
-pub record StandFor (setup : Setup) (terms : FrameTerms) : Type 0 where
-  pub each : length terms.targets ≡ length setup.mesh.numbers
-  pub near : All (Within FARTHEST_TARGET) terms.targets
+-- the terms of a frame, and what is kept of the bodies
+pub record KeptTerms : Type 0 where
+  pub frame : FrameTerms
+  pub elastic : List ElasticTet
+
+-- the terms are of this setup: one target per node, none too far, and what is kept is of its tetrahedra
+pub record StandFor (setup : Setup) (terms : KeptTerms) : Type 0 where
+  pub each : length terms.frame.targets ≡ length setup.mesh.numbers
+  pub near : All (Within FARTHEST_TARGET) terms.frame.targets
+  pub elastic : terms.elastic ≡ elastic_tets setup

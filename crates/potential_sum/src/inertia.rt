@@ -1,147 +1,140 @@
-//! Inertia of one node.
-ghost use Rattle.std.specs.Prelude.{◌≡◌, ◌-◌, ◌^◌, pos, ◌+ℤ◌, ◌-ℤ◌, ◌*ℤ◌};
-ghost use Rattle.num_q.specs.Rounding.{cut_of, floor_of};
-ghost use Rattle.space3.specs.declared.places.TheConstants.{BOX_LIMIT};
+//! Targets, and the inertia of all nodes.
+ghost use Rattle.std.specs.Prelude.{◌≡◌, ◌<◌, ◌≤◌, ◌^◌, pos, IfOk, All, map, length, slice_index_or, [], ◌∷◌};
+ghost use Rattle.std.specs.List.{range_with_len};
+ghost use Rattle.list_laws.specs.Sums.{total};
+ghost use Rattle.whole_laws.specs.Ranges.{IsFrom};
+ghost use Rattle.space3.specs.Vectors.{AtMost, Within};
+ghost use Rattle.space3.specs.Mesh.{place_of};
 ghost use Rattle.surface_mesh.specs.declared.ranges.TheConstants.{FARTHEST_BEFORE, MOST_GRAVITY};
 ghost use Rattle.surface_mesh.specs.declared.sturdy.TheConstants.{MOST_MASS};
-ghost use Rattle.space3.specs.Vectors.{AtMost, Within, dot_product};
-ghost use Rattle.whole_laws.specs.Ranges.{IsFrom};
-ghost use Rattle.potential_sum.specs.declared.terms.TheConstants.{FARTHEST_TARGET};
-ghost use Rattle.potential_sum.specs.Inertia.{target_of, offset_of, inertia_energy, inertia_pull, inertia_gradient};
-ghost use Rattle.potential_sum.specs.Potential.{components};
+ghost use Rattle.inertia_term.specs.declared.target.TheConstants.{FARTHEST_TARGET};
+ghost use Rattle.potential_sum.specs.Calls.Inertia.{AreMovers, energy_at, part_at, pull_of};
+ghost use Rattle.potential_sum.specs.Calls.Sums.{AreLight, as_pull, pulls_of, with_parts};
+ghost use Rattle.inertia_term.specs.Inertia.{inertia_block};
+ghost use Rattle.potential_sum.specs.Contributions.{diagonal_of};
+ghost use Rattle.potential_sum.specs.Terms.{targets_of};
 
-use num_q::Q;
-use space3::V3;
+use crate::pulls::{Pull, Quantity, add_pulls, pull_at};
+use inertia_term::{inertia_block, inertia_energy, inertia_gradient, target_of};
+use space3::{Places, V3, W3};
+use std::alloc::{AllocError, Global};
 
-// As far from a place as that is from the place before, in 1/256 grid unit. A component.
-fn onward(now: i64, before: i64) -> i64
-    requires now { AtMost BOX_LIMIT now }
-    requires before { AtMost FARTHEST_BEFORE before }
-    ensures value { result ≡ pos 512 *ℤ now -ℤ pos 256 *ℤ before }
-    ensures bound { AtMost (FARTHEST_TARGET - MOST_GRAVITY) result }
-{
-    512 * now - 256 * before
-}
-
-// A component of a target.
-fn target_along(gravity: i64, now: i64, before: i64) -> i64
-    requires gravity { AtMost MOST_GRAVITY gravity }
-    requires now { AtMost BOX_LIMIT now }
-    requires before { AtMost FARTHEST_BEFORE before }
-    ensures value { result ≡ (pos 512 *ℤ now -ℤ pos 256 *ℤ before) +ℤ gravity }
-    ensures bound { AtMost FARTHEST_TARGET result }
-{
-    onward(now, before) + gravity
-}
-
-// Where a node would be without forces, in 1/256 grid unit.
-pub(crate) fn target_of(gravity: V3, now: V3, before: V3) -> V3
+// The targets, one per node.
+pub(crate) fn targets_of(
+    alloc: Global,
+    gravity: V3,
+    now: &Places,
+    before: &[V3],
+) -> Result<Vec<V3>, AllocError>
     requires gravity { Within MOST_GRAVITY gravity }
-    requires now { Within BOX_LIMIT now }
-    requires before { Within FARTHEST_BEFORE before }
-    ensures value { result ≡ target_of gravity now before }
+    requires as_many { length before.now ≡ length now.now }
+    requires before { All (Within FARTHEST_BEFORE) before.now }
+    ensures targets { IfOk result (λ made. made.items ≡ targets_of gravity now.now before.now) }
+    ensures near { IfOk result (λ made. All (Within FARTHEST_TARGET) made.items) }
+{
+    let mut made = Vec::with_capacity(alloc, before.len())?;
+    for node in 0..now.len() {
+        made.push(target_of(gravity, now.get(node), before[node as usize]))?;
+    }
+    Ok(made)
+}
+
+// The energy of inertia of all nodes.
+pub(crate) fn inertia_energy_of(masses: &[i128], targets: &[V3], x: &Places) -> i128
+    requires nodes { AreMovers masses.now targets.now x.now }
+    requires few { length x.now ≤ 16384 }
+    ensures value { result ≡
+        total (map (energy_at masses.now targets.now x.now) (range_with_len 0 (length x.now))) }
+    ensures small { AtMost (2 ^ 104) result }
+{
+    let mut sum = 0;
+    for node in 0..x.len() {
+        sum += node_energy(masses, targets, x, node);
+    }
+    sum
+}
+
+// The energy of inertia at a node.
+fn node_energy(masses: &[i128], targets: &[V3], x: &Places, node: u32) -> i128
+    requires nodes { AreMovers masses.now targets.now x.now }
+    requires there { node < length x.now }
+    ensures { result ≡ energy_at masses.now targets.now x.now node }
+{
+    let i = node as usize;
+    inertia_energy(mass_of(masses, i), x.get(node), target_at(targets, i))
+}
+
+// Adds what inertia gives at each node.
+pub(crate) fn add_inertia_vectors(
+    quantity: Quantity,
+    sums: &mut [W3],
+    masses: &[i128],
+    targets: &[V3],
+    x: &Places,
+)
+    requires nodes { AreMovers masses.now targets.now x.now }
+    requires each { length sums.old ≡ length x.now }
+    requires few { length x.now ≤ 16384 }
+    requires small { AreLight (2 ^ 118) sums.old }
+    ensures { sums.new ≡ with_parts quantity sums.old
+        (map (part_at masses.now targets.now x.now) (range_with_len 0 (length x.now))) }
+{
+    for node in 0..x.len() {
+        add_pulls(sums, &[node_vector(quantity, masses, targets, x, node)]);
+    }
+}
+
+// The vector of a quantity at a node.
+fn node_vector(quantity: Quantity, masses: &[i128], targets: &[V3], x: &Places, node: u32) -> Pull
+    requires nodes { AreMovers masses.now targets.now x.now }
+    requires there { node < length x.now }
+    ensures { result ∷ [] ≡ pulls_of quantity (part_at masses.now targets.now x.now node) }
+{
+    match quantity {
+        Quantity::Pull => node_pull(masses, targets, x, node),
+        Quantity::Stiffness => node_diagonal(masses, node),
+    }
+}
+
+// What inertia adds to the diagonal at a node.
+fn node_diagonal(masses: &[i128], node: u32) -> Pull
+    requires there { node < length masses.now }
+    requires masses { All (IsFrom (pos 0) MOST_MASS) masses.now }
+    ensures { result ≡ as_pull
+        (node, diagonal_of (inertia_block (slice_index_or masses.now node (pos 0)))) }
+{
+    let block = inertia_block(mass_of(masses, node as usize));
+    pull_at(node, [block[0][0], block[1][1], block[2][2]])
+}
+
+// What inertia pulls with at a node.
+fn node_pull(masses: &[i128], targets: &[V3], x: &Places, node: u32) -> Pull
+    requires nodes { AreMovers masses.now targets.now x.now }
+    requires there { node < length x.now }
+    ensures { result ≡ as_pull (node, pull_of masses.now targets.now x.now node) }
+{
+    let i = node as usize;
+    let mass = mass_of(masses, i);
+    pull_at(
+        node,
+        inertia_gradient(mass, x.get(node), target_at(targets, i)),
+    )
+}
+
+fn mass_of(masses: &[i128], node: usize) -> i128
+    requires there { node < length masses.now }
+    requires masses { All (IsFrom (pos 0) MOST_MASS) masses.now }
+    ensures value { result ≡ slice_index_or masses.now node (pos 0) }
+    ensures in_range { IsFrom (pos 0) MOST_MASS result }
+{
+    masses[node]
+}
+
+fn target_at(targets: &[V3], node: usize) -> V3
+    requires there { node < length targets.now }
+    requires targets { All (Within FARTHEST_TARGET) targets.now }
+    ensures value { result ≡ place_of targets.now node }
     ensures bound { Within FARTHEST_TARGET result }
 {
-    V3 {
-        x: target_along(gravity.x, now.x, before.x),
-        y: target_along(gravity.y, now.y, before.y),
-        z: target_along(gravity.z, now.z, before.z),
-    }
-}
-
-// A component of an offset.
-fn offset_along(place: i64, target: i64) -> i64
-    requires place { AtMost BOX_LIMIT place }
-    requires target { AtMost FARTHEST_TARGET target }
-    ensures value { result ≡ pos 256 *ℤ place -ℤ target }
-    ensures bound { AtMost (2 ^ 31 - 1) result }
-{
-    256 * place - target
-}
-
-// How far a place is from a target, in 1/256 grid unit.
-fn offset_of(place: V3, target: V3) -> V3
-    requires place { Within BOX_LIMIT place }
-    requires target { Within FARTHEST_TARGET target }
-    ensures value { result ≡ offset_of place target }
-    ensures bound { Within (2 ^ 31 - 1) result }
-{
-    V3 {
-        x: offset_along(place.x, target.x),
-        y: offset_along(place.y, target.y),
-        z: offset_along(place.z, target.z),
-    }
-}
-
-// The square of a component of an offset, in squared grid units with 16 fraction bits.
-fn square(offset: i64) -> Q<16, 62>
-    requires { AtMost (2 ^ 31 - 1) offset }
-    ensures { result.raw ≡ offset *ℤ offset }
-{
-    let offset: Q<8, 31> = Q::of_raw(offset as i128);
-    offset.mul_into(offset)
-}
-
-// The squared length of an offset.
-fn squared_length(offset: V3) -> Q<16, 64>
-    requires { Within (2 ^ 31 - 1) offset }
-    ensures { result.raw ≡ dot_product offset offset }
-{
-    let xy: Q<16, 63> = square(offset.x).add_into(square(offset.y));
-    xy.add_into(square(offset.z))
-}
-
-// A mass as a number with no fraction bits.
-fn mass_number(mass: i128) -> Q<0, 59>
-    requires { IsFrom (pos 0) MOST_MASS mass }
-    ensures { result.raw ≡ mass }
-{
-    Q::of_raw(mass)
-}
-
-// Mass times a squared length, in squared grid units.
-fn energy_of(mass: i128, square: Q<16, 64>) -> i128
-    requires { IsFrom (pos 0) MOST_MASS mass }
-    ensures { result ≡ cut_of 90 (floor_of (mass *ℤ square.raw) (pos 65536)) }
-{
-    let exact: Q<16, 123> = mass_number(mass).mul_into(square);
-    let whole: Q<0, 123> = exact.rescale_into();
-    whole.cut_into::<90>().raw()
-}
-
-// Mass times the squared offset, in squared grid units.
-pub(crate) fn inertia_energy(mass: i128, place: V3, target: V3) -> i128
-    requires mass { IsFrom (pos 0) MOST_MASS mass }
-    requires place { Within BOX_LIMIT place }
-    requires target { Within FARTHEST_TARGET target }
-    ensures { result ≡ inertia_energy mass place target }
-{
-    energy_of(mass, squared_length(offset_of(place, target)))
-}
-
-// Twice the mass times a component of an offset, in grid units. Twice a length in 1/256 grid unit has 7 fraction bits.
-fn inertia_pull(mass: i128, offset: i64) -> i128
-    requires mass { IsFrom (pos 0) MOST_MASS mass }
-    requires offset { AtMost (2 ^ 31 - 1) offset }
-    ensures { result ≡ inertia_pull mass offset }
-{
-    let twice: Q<7, 31> = Q::of_raw(offset as i128);
-    let exact: Q<7, 90> = mass_number(mass).mul_into(twice);
-    let whole: Q<0, 90> = exact.rescale_into();
-    whole.cut_into::<90>().raw()
-}
-
-// The gradient of inertia at a node.
-pub(crate) fn inertia_gradient(mass: i128, place: V3, target: V3) -> [i128; 3]
-    requires mass { IsFrom (pos 0) MOST_MASS mass }
-    requires place { Within BOX_LIMIT place }
-    requires target { Within FARTHEST_TARGET target }
-    ensures { result ≡ components (inertia_gradient mass place target) }
-{
-    let offset = offset_of(place, target);
-    [
-        inertia_pull(mass, offset.x),
-        inertia_pull(mass, offset.y),
-        inertia_pull(mass, offset.z),
-    ]
+    targets[node]
 }

@@ -1,9 +1,9 @@
-//! The potential that a frame lowers, and its gradient.
+//! The potential that a frame lowers, and its gradient: sums of contributions of nodes and of tetrahedra.
 #![tactic(auto)]
 
+mod bodies;
 mod inertia;
-mod laws;
+mod pulls;
 mod terms;
 
-pub use laws::{a_node_falls, inertia_is_rounded_down};
-pub use terms::{FARTHEST_TARGET, Terms};
+pub use terms::Terms;

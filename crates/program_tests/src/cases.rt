@@ -89,7 +89,7 @@ fn meshes_that_are_refused(rt: HostRuntime) -> Result<(), Fail> {
 #[test]
 fn scenes_that_are_refused(rt: HostRuntime) -> Result<(), Fail> {
     let rest = "frames = 3\nbudget = 10\ndhat = 2\n";
-    let stiff = "[material]\ndensity = 1\nlambda = 0\nmu = 1\n";
+    let stiff = "[material]\ndensity = 1\nlambda = 0\nmu = 1073741825\n";
     let table = [
         ("kappa = 0\n", MATERIAL, "missing key tol\n"),
         ("kappa = 0\ntol = 0\n", MATERIAL, "out of range kappa 0\n"),
@@ -101,7 +101,7 @@ fn scenes_that_are_refused(rt: HostRuntime) -> Result<(), Fail> {
         (
             "kappa = 1\ntol = 0\n",
             stiff,
-            "out of range material.mu 1\n",
+            "out of range material.mu 1073741825\n",
         ),
         ("kappa = 1\ntol = 0\ntol = 0\n", MATERIAL, "not toml\n"),
         ("kappa = 1\ntol = true\n", MATERIAL, "wrong type tol\n"),

@@ -10,3 +10,7 @@ mod desk;
 mod endless;
 #[cfg(test)]
 mod faults;
+#[cfg(test)]
+mod motions;
+#[cfg(test)]
+mod surfaces;

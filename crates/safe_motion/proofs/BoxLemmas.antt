@@ -15,7 +15,7 @@ use Rattle.safe_motion.specs.Meeting.{Separates}
 use Rattle.space3.specs.Boxes.{IsBetween}
 use Rattle.safe_motion.specs.SweptBoxes.{both_ends, SweptBoxesTouch}
 use Rattle.safe_motion.specs.Certificates.{PairCertificate}
-use Rattle.safe_motion.proofs.VectorForms.{components, at, ◌⊖₃◌, ◌⊗₃◌, dot}
+use Rattle.space3.proofs.VectorForms.{components, at, ◌⊖₃◌, ◌⊗₃◌, dot}
 use Rattle.safe_motion.proofs.Inside.{dot-place}
 
 -- one order or the other holds of each two numbers of the two lists, or some number is between the ends of both

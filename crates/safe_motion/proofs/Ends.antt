@@ -24,7 +24,7 @@ place-end m = λ i. vector (each m.start.x m.end.x i) (each m.start.y m.end.y i)
     each : (a b : ℤ) → pos 0 *ℤ a +ℤ pos 1 *ℤ b ≡ b
     each a b = ring (a ∷ b ∷ []) (num (pos 0) ⊗ v 0 ⊕ num (pos 1) ⊗ v 1) (v 1) tt
 
-places-start : (x0 x1 : List V3) (nodes : List ℕ) → places_at 0 1 (node_moves x0 x1 nodes) ≡ map (place_of x0) nodes
+pub places-start : (x0 x1 : List V3) (nodes : List ℕ) → places_at 0 1 (node_moves x0 x1 nodes) ≡ map (place_of x0) nodes
 places-start x0 x1 [] = refl
 places-start x0 x1 (node ∷ nodes) = λ i. place-start (node_move x0 x1 node) i ∷ places-start x0 x1 nodes i
 

@@ -16,7 +16,7 @@ use Rattle.safe_motion.specs.Moments.{place_at, places_at}
 use Rattle.safe_motion.specs.Meeting.{Separates}
 use Rattle.safe_motion.specs.Certificates.{Serves, IsServed, PairCertificate, VolumeCertificate, volume_at}
 use Rattle.safe_motion.specs.Examples.{still_point, still_vertex, turning_right, turning_left, turning_edge, swinging_down, swinging_up, swinging_edge, overturning_tetrahedron}
-use Rattle.safe_motion.proofs.VectorForms.{det}
+use Rattle.space3.proofs.VectorForms.{det}
 use Rattle.safe_motion.proofs.Inside.{dot-place}
 use Rattle.safe_motion.proofs.Certified.{certified_positive}
 

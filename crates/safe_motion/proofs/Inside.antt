@@ -9,7 +9,7 @@ use Rattle.whole_laws.proofs.Ring.{ring, v, num, ◌⊕◌, ◌⊖◌, ◌⊗◌
 use Rattle.whole_laws.proofs.Blends.{AreShares, blend_pos, pos_of_times_nat}
 use Rattle.safe_motion.specs.declared.motion.Move.{Move}
 use Rattle.safe_motion.specs.Moments.{IsFraction, IsInside, place_at}
-use Rattle.safe_motion.proofs.VectorForms.{components, at, ◌⊕₃◌, ◌⊖₃◌, ◌⊗₃◌, dot}
+use Rattle.space3.proofs.VectorForms.{components, at, ◌⊕₃◌, ◌⊖₃◌, ◌⊗₃◌, dot}
 
 -- the number at p / q, times q, that goes straight from a to b
 abbrev pub blend : ℕ → ℕ → ℤ → ℤ → ℤ

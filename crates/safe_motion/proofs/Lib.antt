@@ -8,5 +8,4 @@ pub mod Inside
 pub mod SearchByHalves
 pub mod Separation
 pub mod Standing
-pub mod VectorForms
 pub mod Volumes

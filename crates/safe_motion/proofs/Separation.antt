@@ -14,7 +14,7 @@ use Rattle.safe_motion.specs.Moments.{IsInside, place_at, places_at}
 use Rattle.space3.specs.Weights.{weighted_sum}
 use Rattle.safe_motion.specs.Meeting.{AreMeetingWeights, Separates}
 use Rattle.safe_motion.specs.Certificates.{Serves}
-use Rattle.safe_motion.proofs.VectorForms.{components, at, ◌⊕₃◌, ◌⊖₃◌, ◌⊗₃◌, dot}
+use Rattle.space3.proofs.VectorForms.{components, at, ◌⊕₃◌, ◌⊖₃◌, ◌⊗₃◌, dot}
 use Rattle.safe_motion.proofs.Inside.{dot-place, blend_inside}
 
 -- two moving points are apart along n at p / q

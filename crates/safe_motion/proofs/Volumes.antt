@@ -9,7 +9,7 @@ use Rattle.safe_motion.specs.Moments.{IsInside, place_at}
 use Rattle.safe_motion.specs.declared.motion.Corners.{Corners}
 use Rattle.safe_motion.specs.declared.motion.Edges.{Edges}
 use Rattle.safe_motion.specs.Certificates.{edges_at, volume_at, ArePositive, StaysPositive}
-use Rattle.safe_motion.proofs.VectorForms.{components, Triple, at, ◌⊕₃◌, ◌⊗₃◌, det}
+use Rattle.space3.proofs.VectorForms.{components, Triple, at, ◌⊕₃◌, ◌⊗₃◌, det}
 use Rattle.safe_motion.proofs.Inside.{shares, early_share, late_share, blend, blend-between}
 
 -- the middle Bernstein coefficients of the edges s and t

@@ -3,7 +3,7 @@ use Rattle.std.proofs.Common.{◌≡◌, List, [], ◌∷◌, Result, Ok, Err, O
 use Rattle.std.specs.Option.{option_or}
 use Rattle.toml.specs.Data.{Members, get_member}
 use Rattle.scene_toml.specs.declared.refusal.SceneErr.{SceneErr}
-use Rattle.scene_toml.specs.Readings.{Reading, first_refusal, read_keys, refusal}
+use Rattle.scene_toml.specs.Reading.{Reading, first_refusal, read_keys, refusal}
 use Rattle.scene_toml.specs.Values.{and_then}
 
 refusal_of_both : {T U : Type 0} (step : Result T SceneErr) (then : T → Result U SceneErr) (later : Option SceneErr) → ((x : T) → refusal (then x) ≡ later)

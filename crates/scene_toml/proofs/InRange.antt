@@ -1,28 +1,33 @@
 -- What is read is in its key's range.
-use Rattle.std.proofs.Common.{IfOk, ◌≡◌, ◌^◌, ◌≤◌, ℕ, ℤ, pos, neg_ℤ, ◌≤ℤ◌, List, length, Bool, true, false, int_le, Option, Some, None, Result, Ok, Err, if◌then◌else◌, refl, sym, subst, arith, rules}
+use Rattle.std.proofs.Common.{IfOk, ◌≡◌, ◌^◌, ◌+◌, ◌≤◌, ℕ, ℤ, pos, neg_ℤ, ◌≤ℤ◌, List, [], ◌∷◌, ◌++◌, length, map, Bool, true, false, int_le, Option, Some, None, Result, Ok, Err, if◌then◌else◌, refl, sym, ap, subst, arith}
+use Rattle.std.specs.Prelude.{All, IfSome, unwrap_or}
+use Rattle.std.proofs.lemmas.List.{length-append, length-map}
+use Rattle.std.proofs.lemmas.List.Elements.{All-nil, All-cons, All-append, All-map, All-weaker}
 use Rattle.std.proofs.lemmas.Bool.{and_parts}
 use Rattle.std.proofs.lemmas.Float.{T_from_true}
 use Rattle.std.proofs.lemmas.Int.{ints}
 use Rattle.std.specs.Int.Signed.{le_z_yes}
 use Rattle.std.specs.Prelude.{codes, unsigned_abs}
-use Rattle.toml.specs.Data.{Data, string, integer, array, table, Members, get_member}
+use Rattle.toml.specs.Data.{Data, string, integer, array, table, Items, no_items, item, Members, get_member}
 use Rattle.space3.specs.declared.vectors.V3.{V3}
 use Rattle.space3.specs.Vectors.{AtMost, Within, origin}
 use Rattle.surface_mesh.specs.declared.materials.Material.{Material}
 use Rattle.whole_laws.specs.Ranges.{IsFrom}
 use Rattle.surface_mesh.specs.Materials.{IsMaterial}
-use Rattle.scene_toml.specs.declared.keys.TheConstants.{NAME_LENGTHS, FRAME_COUNTS, BUDGETS, TOLERANCES, GRAVITIES, CONTACT_DISTANCES, STIFFNESSES, DENSITIES, ZERO}
+use Rattle.scene_toml.specs.declared.keys.TheConstants.{NAME_LENGTHS, FRAME_COUNTS, BUDGETS, TOLERANCES, GRAVITIES, CONTACT_DISTANCES, STIFFNESSES, DENSITIES, MODULI, VELOCITIES, ZERO}
 use Rattle.scene_toml.specs.declared.keys.Section.{Section}
 use Rattle.scene_toml.specs.declared.keys.Section.TheVariants as sections
 use Rattle.scene_toml.specs.declared.refusal.SceneErr.{SceneErr}
 use Rattle.scene_toml.specs.declared.refusal.ReadSceneErr.{ReadSceneErr}
 use Rattle.scene_toml.specs.declared.scene.Scene.{Scene}
 use Rattle.scene_toml.specs.Gives.{Gives}
-use Rattle.scene_toml.specs.Calls.{integer_at, material_at, material_in, text_at, vector_at}
+use Rattle.scene_toml.specs.Calls.{bool_at, integer_at, material_at, material_in, new_tag_at, optional_bool_at, optional_integer_at, optional_vector_at, parts_at, text_at, vector_at}
+use Rattle.scene_toml.specs.declared.parts.PartKeys.{PartKeys}
+use Rattle.scene_toml.specs.Parts.{are_tables, count_of, not_tables, part, part_in, parts_from, parts_of, with_base}
 use Rattle.scene_toml.specs.Keys.{Key, key}
 use Rattle.scene_toml.specs.Readings.{material_of}
 use Rattle.scene_toml.specs.Tables.{table_of, first_unknown}
-use Rattle.scene_toml.specs.Values.{in_range, integer_of, text_of, three_integers, components_of, vector_of}
+use Rattle.scene_toml.specs.Values.{in_range, integer_of, optional, text_of, three_integers, components_of, vector_of}
 use Rattle.scene_toml.specs.Scenes.{IsName, IsScene, scene_in, scene_of_table, scene_of_text, unless_unknown}
 use Rattle.scene_toml.proofs.Steps.{and_then-ok}
 
@@ -91,26 +96,104 @@ size_of bound n h = record { bound = omega (arith, ints, h.low, h.high) }
 sizes_of : (bound : ℕ) (v : V3) → AreFrom (neg_ℤ (pos bound)) (pos bound) v → Within bound v
 sizes_of bound v h = record { x = size_of bound v.x h.x; y = size_of bound v.y h.y; z = size_of bound v.z h.z }
 
-wider : (least most most' n : ℤ) → most ≤ℤ most' → IsFrom least most n → IsFrom least most' n
-wider least most most' n more h = record { low = h.low; high = omega (arith, ints, h.high, more) }
-
 material_in-holds : (ms : Members) (material : Material) → material_in ms ≡ Ok material → IsMaterial material
 material_in-holds ms material e =
     and_then-ok (integer_at sections.Material (key (codes "density") DENSITIES) ms) _ material e
-    (λ density density-is e. and_then-ok (integer_at sections.Material (key (codes "mu") ZERO) ms) _ material e
-    (λ mu mu-is e. and_then-ok (integer_at sections.Material (key (codes "lambda") ZERO) ms) _ material e
-    (λ lambda lambda-is e.
+    (λ density density-is e. and_then-ok (integer_at sections.Material (key (codes "mu") MODULI) ms) _ material e
+    (λ mu mu-is e. and_then-ok (integer_at sections.Material (key (codes "lambda") MODULI) ms) _ material e
+    (λ lambda lambda-is e. and_then-ok (bool_at sections.Material (key (codes "fixed") ZERO) false ms) _ material e
+    (λ fixed fixed-is e. and_then-ok (vector_at sections.Material (key (codes "velocity") VELOCITIES) origin ms) _ material e
+    (λ velocity velocity-is e.
+    let velocity_from = vector_of-holds sections.Material (key (codes "velocity") VELOCITIES) origin (get_member (codes "velocity") ms) velocity (at_rest _ _ (omega arith) (omega arith)) velocity-is in
     subst IsMaterial (ok_same _ material e) (record {
       density = integer_at-holds sections.Material (key (codes "density") DENSITIES) ms density density-is;
-      mu = wider _ _ (pos (2 ^ 30)) mu (omega arith) (integer_at-holds sections.Material (key (codes "mu") ZERO) ms mu mu-is);
-      lambda = wider _ _ (pos (2 ^ 30)) lambda (omega arith) (integer_at-holds sections.Material (key (codes "lambda") ZERO) ms lambda lambda-is);
-      velocity = sizes_of 65536 origin (at_rest _ _ (omega arith) (omega arith));
-    }))))
+      mu = integer_at-holds sections.Material (key (codes "mu") MODULI) ms mu mu-is;
+      lambda = integer_at-holds sections.Material (key (codes "lambda") MODULI) ms lambda lambda-is;
+      velocity = sizes_of 65536 velocity velocity_from;
+    }))))))
 
 material_of-holds : (value : Option Data) (material : Material) → material_of value ≡ Ok material → IsMaterial material
 material_of-holds (Some (table ms)) material e = material_in-holds ms material e
 material_of-holds (Some _) material e = absurd cc
 material_of-holds None material e = absurd cc
+
+-- what may be absent is in the range where it is there
+optional-holds : {T : Type 0} (P : T → Type 0) (read : Option Data → Result T SceneErr) (value : Option Data) (o : Option T) → ((v : Option Data) (x : T) → read v ≡ Ok x → P x) → optional read value ≡ Ok o → IfSome o P
+optional-holds P read (Some d) o h e = and_then-ok (read (Some d)) _ o e (λ x x-is e. subst (λ o. IfSome o P) (ok_same _ o e) (h (Some d) x x-is))
+optional-holds P read None o h e = subst (λ o. IfSome o P) (ok_same _ o e) tt
+
+-- what a part has in place of the base material's is in range
+record IsPart (part : PartKeys) : Type 0 where
+  pub density : IfSome part.density (IsFrom DENSITIES.0 DENSITIES.1)
+  pub mu : IfSome part.mu (IsFrom MODULI.0 MODULI.1)
+  pub lambda : IfSome part.lambda (IsFrom MODULI.0 MODULI.1)
+  pub velocity : IfSome part.velocity (AreFrom VELOCITIES.0 VELOCITIES.1)
+
+integer_if : (section : Section) (key : Key) (ms : Members) (o : Option ℤ) → optional_integer_at section key ms ≡ Ok o → IfSome o (IsFrom key.least key.most)
+integer_if section key ms o e = optional-holds (IsFrom key.least key.most) (integer_of section key) (get_member key.name ms) o (λ v n n-is. integer_of-holds section key v n n-is) e
+
+part_in-holds : (earlier : List PartKeys) (ms : Members) (part : PartKeys) → part_in earlier ms ≡ Ok part → IsPart part
+part_in-holds earlier ms part e =
+    let section = sections.Part (length earlier) in
+    and_then-ok (new_tag_at earlier ms) _ part e
+    (λ tag tag-is e. and_then-ok (optional_integer_at section (key (codes "density") DENSITIES) ms) _ part e
+    (λ density density-is e. and_then-ok (optional_integer_at section (key (codes "mu") MODULI) ms) _ part e
+    (λ mu mu-is e. and_then-ok (optional_integer_at section (key (codes "lambda") MODULI) ms) _ part e
+    (λ lambda lambda-is e. and_then-ok (optional_bool_at section (key (codes "fixed") ZERO) ms) _ part e
+    (λ fixed fixed-is e. and_then-ok (optional_vector_at section (key (codes "velocity") VELOCITIES) ms) _ part e
+    (λ velocity velocity-is e. subst IsPart (ok_same _ part e) (record {
+      density = integer_if section (key (codes "density") DENSITIES) ms density density-is;
+      mu = integer_if section (key (codes "mu") MODULI) ms mu mu-is;
+      lambda = integer_if section (key (codes "lambda") MODULI) ms lambda lambda-is;
+      velocity = optional-holds (AreFrom VELOCITIES.0 VELOCITIES.1) (vector_of section (key (codes "velocity") VELOCITIES) origin) (get_member (codes "velocity") ms) velocity
+          (λ v u u-is. vector_of-holds section (key (codes "velocity") VELOCITIES) origin v u (at_rest _ _ (omega arith) (omega arith)) u-is) velocity-is;
+    })))))))
+
+-- parts in range, as many as tables
+parts_from-holds : (earlier : List PartKeys) (items : Items) (parts : List PartKeys) → All IsPart earlier → parts_from earlier items ≡ Ok parts → All IsPart parts × (length parts ≡ length earlier + count_of items)
+parts_from-holds earlier no_items parts h e =
+    let same = ok_same _ parts e in
+    (subst (All IsPart) same h, omega (arith, ap length same))
+parts_from-holds earlier (item (table ms) more) parts h e =
+    and_then-ok (part_in earlier ms) _ parts e
+    (λ part part-is e.
+    let one = All-cons IsPart part [] (part_in-holds earlier ms part part-is) (All-nil IsPart) in
+    let (all, count) = parts_from-holds (earlier ++ part ∷ []) more parts (All-append IsPart earlier (part ∷ []) h one) e in
+    (all, omega (arith, count, length-append earlier (part ∷ []))))
+parts_from-holds earlier (item _ more) parts h e = absurd cc
+
+if_chosen : (b : Bool) (step : Result (List PartKeys) SceneErr) (fault : SceneErr) (parts : List PartKeys) → (if b then step else Err fault) ≡ Ok parts → step ≡ Ok parts
+if_chosen true step fault parts e = e
+if_chosen false step fault parts e = absurd cc
+
+parts_of-holds : (value : Option Data) (parts : List PartKeys) → parts_of value ≡ Ok parts → All IsPart parts × (length parts ≤ 64)
+parts_of-holds (Some (array items)) parts e =
+    and_then-ok (in_range sections.Top part (pos (count_of items))) _ parts (if_chosen (are_tables items) _ not_tables parts e)
+    (λ n n-is e.
+    let (same, range) = in_range-holds sections.Top part (pos (count_of items)) n n-is in
+    let (all, count) = parts_from-holds [] items parts (All-nil IsPart) e in
+    (all, few (count_of items) (length parts) count (subst (IsFrom (pos 0) (pos 64)) (sym same) range)))
+  where
+    few : (n m : ℕ) → m ≡ 0 + n → IsFrom (pos 0) (pos 64) (pos n) → m ≤ 64
+    few n m e h = omega (arith, ints, e, h.high)
+parts_of-holds (Some _) parts e = absurd cc
+parts_of-holds None parts e = (subst (All IsPart) (ok_same _ parts e) (All-nil IsPart), omega (arith, ap length (ok_same _ parts e)))
+
+or_base : {T : Type 0} (P : T → Type 0) (o : Option T) (base : T) → P base → IfSome o P → P (unwrap_or o base)
+or_base P (Some x) base h k = k
+or_base P None base h k = h
+
+with_base-holds : (base : Material) (part : PartKeys) → IsMaterial base → IsPart part → IsMaterial (with_base base part).1
+with_base-holds base part h k = record {
+  density = or_base (IsFrom DENSITIES.0 DENSITIES.1) part.density base.density h.density k.density;
+  mu = or_base (IsFrom MODULI.0 MODULI.1) part.mu base.mu h.mu k.mu;
+  lambda = or_base (IsFrom MODULI.0 MODULI.1) part.lambda base.lambda h.lambda k.lambda;
+  velocity = or_base (Within 65536) part.velocity base.velocity h.velocity (if_within part.velocity k.velocity);
+}
+  where
+    if_within : (o : Option V3) → IfSome o (AreFrom VELOCITIES.0 VELOCITIES.1) → IfSome o (Within 65536)
+    if_within (Some v) h = sizes_of 65536 v h
+    if_within None h = tt
 
 is_name : (text : List ℕ) → IsFrom (pos 1) (pos 200) (pos (length text)) → IsName text
 is_name text h = record { not_empty = omega (arith, ints, h.low); short = omega (arith, ints, h.high) }
@@ -130,7 +213,10 @@ scene_in-holds ms scene e =
     and_then-ok (integer_at sections.Top (key (codes "dhat") CONTACT_DISTANCES) ms) _ scene e (λ dhat dhat-is e.
     and_then-ok (integer_at sections.Top (key (codes "kappa") STIFFNESSES) ms) _ scene e (λ kappa kappa-is e.
     and_then-ok (material_at ms) _ scene e (λ base base-is e.
+    and_then-ok (parts_at ms) _ scene e (λ parts parts-is e.
     let gravity_from = vector_of-holds sections.Top (key (codes "gravity") GRAVITIES) origin (get_member (codes "gravity") ms) gravity (at_rest _ _ (omega arith) (omega arith)) gravity-is in
+    let base_in = material_of-holds (get_member (codes "material") ms) base base-is in
+    let (parts_in, few) = parts_of-holds (get_member (codes "part") ms) parts parts-is in
     let budget_from = count_from 1 1000 budget (integer_at-holds sections.Top (key (codes "budget") BUDGETS) ms budget budget-is) in
     subst IsScene (ok_same _ scene e) (record {
       mesh = is_name mesh (text_of-holds sections.Top (key (codes "mesh") NAME_LENGTHS) (get_member (codes "mesh") ms) mesh mesh-is);
@@ -141,14 +227,14 @@ scene_in-holds ms scene e =
       budget = budget_from.1;
       tol = integer_at-holds sections.Top (key (codes "tol") TOLERANCES) ms tol tol-is;
       numbers = record {
-        base = material_of-holds (get_member (codes "material") ms) base base-is;
-        few_parts = omega arith;
-        parts = search rules;
+        base = base_in;
+        few_parts = omega (arith, few, length-map parts (with_base base));
+        parts = All-map (λ part. IsMaterial part.1) (with_base base) parts (All-weaker IsPart (λ part. IsMaterial (with_base base part).1) (λ part h. with_base-holds base part base_in h) parts parts_in);
         kappa = integer_at-holds sections.Top (key (codes "kappa") STIFFNESSES) ms kappa kappa-is;
         dhat = integer_at-holds sections.Top (key (codes "dhat") CONTACT_DISTANCES) ms dhat dhat-is;
         gravity = sizes_of (2 ^ 20) gravity gravity_from;
       };
-    })))))))))))
+    }))))))))))))
 
 scene_of_members-holds : (unknown : Option (List ℕ)) (ms : Members) (scene : Scene) → unless_unknown unknown (scene_in ms) ≡ Ok scene → IsScene scene
 scene_of_members-holds (Some key) ms scene e = absurd cc

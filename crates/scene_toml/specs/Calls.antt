@@ -1,17 +1,25 @@
 -- Words of the crate's own calls: what stands at a key of a table.
-use Rattle.std.specs.Prelude.{List, ℕ, ℤ, Result}
+use Rattle.std.specs.Prelude.{List, ℕ, ℤ, Bool, false, length, codes, Option, Result}
 use Rattle.toml.specs.Data.{Members, get_member}
 use Rattle.space3.specs.declared.vectors.V3.{V3}
 use Rattle.surface_mesh.specs.declared.materials.Material.{Material}
 use Rattle.scene_toml.specs.declared.keys.Section.{Section}
 use Rattle.scene_toml.specs.declared.refusal.SceneErr.{SceneErr}
+use Rattle.space3.specs.Vectors.{origin}
+use Rattle.scene_toml.specs.declared.parts.PartKeys.{PartKeys}
 use Rattle.scene_toml.specs.Keys.{Key}
-use Rattle.scene_toml.specs.Readings.{material, material_keys, material_of, no_material, read_keys}
-use Rattle.scene_toml.specs.Values.{integer_of, text_of, vector_of}
+use Rattle.scene_toml.specs.Parts.{new_tag_of, part, parts_of}
+use Rattle.scene_toml.specs.Reading.{read_keys}
+use Rattle.scene_toml.specs.Readings.{material, material_keys, material_of, no_material}
+use Rattle.scene_toml.specs.Values.{bool_of, integer_of, optional, text_of, vector_of}
 
 -- the integer at a key
 abbrev pub integer_at : Section → Key → Members → Result ℤ SceneErr
 integer_at section key members = integer_of section key (get_member key.name members)
+
+-- the truth value at a key
+abbrev pub bool_at : Section → Key → Bool → Members → Result Bool SceneErr
+bool_at section key absent members = bool_of section key absent (get_member key.name members)
 
 -- the text at a key
 abbrev pub text_at : Section → Key → Members → Result (List ℕ) SceneErr
@@ -27,3 +35,20 @@ material_in members = read_keys material_keys members no_material
 
 abbrev pub material_at : Members → Result Material SceneErr
 material_at members = material_of (get_member material.name members)
+
+-- what stands at a key that may be absent
+abbrev pub optional_integer_at : Section → Key → Members → Result (Option ℤ) SceneErr
+optional_integer_at section key members = optional (integer_of section key) (get_member key.name members)
+
+abbrev pub optional_bool_at : Section → Key → Members → Result (Option Bool) SceneErr
+optional_bool_at section key members = optional (bool_of section key false) (get_member key.name members)
+
+abbrev pub optional_vector_at : Section → Key → Members → Result (Option V3) SceneErr
+optional_vector_at section key members = optional (vector_of section key origin) (get_member key.name members)
+
+abbrev pub new_tag_at : (earlier : List PartKeys) → Members → Result ℤ SceneErr
+new_tag_at earlier members = new_tag_of (length earlier) earlier (get_member (codes "tag") members)
+
+-- the parts of a scene with their materials
+abbrev pub parts_at : Members → Result (List PartKeys) SceneErr
+parts_at members = parts_of (get_member part.name members)

@@ -1,8 +1,8 @@
 -- Keys, and how they are printed. src/keys.rt has the table of all keys with their ranges.
-use Rattle.std.specs.Prelude.{List, [], ◌++◌, ℕ, ℤ, codes}
+use Rattle.std.specs.Prelude.{List, [], ◌++◌, ℕ, ℤ, codes, decimal}
 use Rattle.scene_toml.specs.declared.keys.Range.{Range}
 use Rattle.scene_toml.specs.declared.keys.Section.{Section}
-use Rattle.scene_toml.specs.declared.keys.Section.TheVariants.{Top, Material}
+use Rattle.scene_toml.specs.declared.keys.Section.TheVariants.{Top, Material, Part}
 
 -- a key: its name, and the least and the greatest value of an integer, of each of three integers, or of a text's
 -- length in bytes
@@ -19,6 +19,7 @@ key name range = record { name = name; least = range.0; most = range.1 }
 abbrev pub prefix : Section → List ℕ
 prefix Top = []
 prefix Material = codes "material."
+prefix (Part k) = codes "part." ++ decimal k ++ codes "."
 
 abbrev pub printed : Section → List ℕ → List ℕ
 printed section name = prefix section ++ name

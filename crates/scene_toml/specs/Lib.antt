@@ -1,6 +1,8 @@
 pub mod Calls
 pub mod Gives
 pub mod Keys
+pub mod Parts
+pub mod Reading
 pub mod Readings
 pub mod Scenes
 pub mod Tables

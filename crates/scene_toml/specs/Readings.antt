@@ -10,36 +10,15 @@ use Rattle.surface_mesh.specs.declared.materials.Numbers.{Numbers}
 use Rattle.scene_toml.specs.declared.keys.Range.{Range}
 use Rattle.scene_toml.specs.declared.keys.Section.{Section}
 use Rattle.scene_toml.specs.declared.keys.Section.TheVariants as sections
-use Rattle.scene_toml.specs.declared.keys.TheConstants.{NAME_LENGTHS, FRAME_COUNTS, BUDGETS, TOLERANCES, GRAVITIES, CONTACT_DISTANCES, STIFFNESSES, DENSITIES, ZERO}
+use Rattle.scene_toml.specs.declared.keys.TheConstants.{NAME_LENGTHS, FRAME_COUNTS, BUDGETS, TOLERANCES, GRAVITIES, CONTACT_DISTANCES, STIFFNESSES, DENSITIES, MODULI, VELOCITIES, ZERO}
 use Rattle.scene_toml.specs.declared.refusal.SceneErr.{SceneErr}
 use Rattle.scene_toml.specs.declared.refusal.SceneErr.TheVariants.{Missing, WrongType}
 use Rattle.scene_toml.specs.declared.scene.Scene.{Scene}
 use Rattle.scene_toml.specs.Keys.{Key, key, printed}
-use Rattle.scene_toml.specs.Values.{and_then, integer_of, text_of, vector_of}
-
--- A key of a table that gives an `S`: what is read at the key, or why it is refused, and where in the `S` it goes.
-pub record Reading (S : Type 0) : Type 1 where
-  pub Value : Type 0
-  pub key : Key
-  pub read : Option Data → Result Value SceneErr
-  pub put : Value → S → S
-
--- The keys of a table, one after the other: all that they give, or the fault of the first that is refused.
-abbrev pub read_keys : {S : Type 0} → List (Reading S) → Members → S → Result S SceneErr
-read_keys [] ms s = Ok s
-read_keys (reading ∷ more) ms s =
-    and_then (reading.read (get_member reading.key.name ms)) (λ value. read_keys more ms (reading.put value s))
-
--- why something is refused, where it is
-abbrev pub refusal : {T : Type 0} → Result T SceneErr → Option SceneErr
-refusal (Ok value) = None
-refusal (Err fault) = Some fault
-
--- the refusal of the first key that is refused, in the list's order
-abbrev pub first_refusal : {S : Type 0} → List (Reading S) → Members → Option SceneErr
-first_refusal [] ms = None
-first_refusal (reading ∷ more) ms =
-    option_or (refusal (reading.read (get_member reading.key.name ms))) (first_refusal more ms)
+use Rattle.scene_toml.specs.Parts.{part, part_keys, parts_of, with_base}
+use Rattle.scene_toml.specs.Reading.{Reading, read_keys}
+use Rattle.scene_toml.specs.declared.parts.PartKeys.{PartKeys}
+use Rattle.scene_toml.specs.Values.{bool_of, integer_of, text_of, vector_of}
 
 abbrev pub integer_key : {S : Type 0} → Section → List ℕ → Range → (ℤ → S → S) → Reading S
 integer_key section name range put =
@@ -54,14 +33,21 @@ abbrev pub vector_key : {S : Type 0} → Section → List ℕ → Range → V3 �
 vector_key section name range absent put =
     record { Value = V3; key = key name range; read = vector_of section (key name range) absent; put = put }
 
+-- true or false, which may be absent
+abbrev pub bool_key : {S : Type 0} → Section → List ℕ → Bool → (Bool → S → S) → Reading S
+bool_key section name absent put =
+    record { Value = Bool; key = key name ZERO; read = bool_of section (key name ZERO) absent; put = put }
+
 abbrev pub material_keys : List (Reading Material)
 material_keys =
     integer_key sections.Material (codes "density") DENSITIES (λ n m. record m { density = n })
-    ∷ integer_key sections.Material (codes "mu") ZERO (λ n m. record m { mu = n })
-    ∷ integer_key sections.Material (codes "lambda") ZERO (λ n m. record m { lambda = n })
+    ∷ integer_key sections.Material (codes "mu") MODULI (λ n m. record m { mu = n })
+    ∷ integer_key sections.Material (codes "lambda") MODULI (λ n m. record m { lambda = n })
+    ∷ bool_key sections.Material (codes "fixed") false (λ b m. record m { fixed = b })
+    ∷ vector_key sections.Material (codes "velocity") VELOCITIES origin (λ v m. record m { velocity = v })
     ∷ []
 
--- a material at rest, of which nothing else is read yet
+-- a material of which nothing is read yet
 abbrev pub no_material : Material
 no_material = record { density = pos 0; mu = pos 0; lambda = pos 0; fixed = false; velocity = origin }
 
@@ -92,6 +78,12 @@ scene_keys =
       read = material_of;
       put = λ base s. record s { numbers = record s.numbers { base = base } };
     }
+    ∷ record {
+      Value = List PartKeys;
+      key = part;
+      read = parts_of;
+      put = λ parts s. record s { numbers = record s.numbers { parts = map (with_base s.numbers.base) parts } };
+    }
     ∷ []
 
 -- a scene of which nothing is read yet
@@ -105,6 +97,7 @@ no_scene = record { mesh = []; out = []; digits = 0; frames = 0; budget = 0; tol
 abbrev pub keys_in : Section → List Key
 keys_in sections.Top = map (λ reading. reading.key) scene_keys
 keys_in sections.Material = map (λ reading. reading.key) material_keys
+keys_in (sections.Part index) = map (λ reading. reading.key) (part_keys index [])
 
 abbrev pub is_known : Section → List ℕ → Bool
 is_known section name = list_any (λ key. bytes_eq key.name name) (keys_in section)

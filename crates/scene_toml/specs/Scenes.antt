@@ -7,7 +7,8 @@ use Rattle.scene_toml.specs.declared.keys.TheConstants.{NAME_LIMIT, FRAME_LIMIT,
 use Rattle.scene_toml.specs.declared.refusal.SceneErr.{SceneErr}
 use Rattle.scene_toml.specs.declared.refusal.SceneErr.TheVariants.{NotToml, UnknownKey}
 use Rattle.scene_toml.specs.declared.scene.Scene.{Scene}
-use Rattle.scene_toml.specs.Readings.{read_keys, scene_keys, no_scene}
+use Rattle.scene_toml.specs.Reading.{read_keys}
+use Rattle.scene_toml.specs.Readings.{scene_keys, no_scene}
 use Rattle.scene_toml.specs.Tables.{table_of, first_unknown}
 
 -- the scene that a table with no unknown key gives

@@ -1,6 +1,6 @@
 -- The value at a key, or why it is refused.
-use Rattle.std.specs.Prelude.{List, ℕ, ℤ, pos, length, Option, Some, None, Result, Ok, Err, ◌&&◌, int_le, if◌then◌else◌}
-use Rattle.toml.specs.Data.{Data, string, integer, array, Items, no_items, item}
+use Rattle.std.specs.Prelude.{List, ℕ, ℤ, pos, length, Bool, Option, Some, None, Result, Ok, Err, ◌&&◌, int_le, if◌then◌else◌}
+use Rattle.toml.specs.Data.{Data, string, boolean, integer, array, Items, no_items, item}
 use Rattle.space3.specs.declared.vectors.V3.{V3}
 use Rattle.space3.specs.Vectors.{vector}
 use Rattle.scene_toml.specs.declared.keys.Section.{Section}
@@ -23,6 +23,12 @@ abbrev pub integer_of : Section → Key → Option Data → Result ℤ SceneErr
 integer_of section key (Some (integer n)) = in_range section key n
 integer_of section key (Some _) = Err (WrongType (printed section key.name))
 integer_of section key None = Err (Missing (printed section key.name))
+
+-- true or false, or what stands for one that is absent
+abbrev pub bool_of : Section → Key → Bool → Option Data → Result Bool SceneErr
+bool_of section key absent (Some (boolean b)) = Ok b
+bool_of section key absent (Some _) = Err (WrongType (printed section key.name))
+bool_of section key absent None = Ok absent
 
 -- a text whose length in bytes is in the key's range
 abbrev pub text_of : Section → Key → Option Data → Result (List ℕ) SceneErr
@@ -49,3 +55,8 @@ abbrev pub vector_of : Section → Key → V3 → Option Data → Result V3 Scen
 vector_of section key absent (Some (array items)) = components_of section key (three_integers items)
 vector_of section key absent (Some _) = Err (WrongType (printed section key.name))
 vector_of section key absent None = Ok absent
+
+-- what is read where something stands, and nothing where it is absent
+abbrev pub optional : {T : Type 0} → (Option Data → Result T SceneErr) → Option Data → Result (Option T) SceneErr
+optional read (Some d) = and_then (read (Some d)) (λ value. Ok (Some value))
+optional read None = Ok None

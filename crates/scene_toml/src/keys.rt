@@ -1,14 +1,19 @@
 //! The keys of a scene with their ranges. A new key is a constant here, a name in its table's list, and an item of the
 //! list of readings in specs/Readings.antt.
-ghost use Rattle.std.specs.Prelude.{◌≡◌, ◌&&◌, IfOk, int_le, bytes_eq};
+ghost use Rattle.std.specs.Prelude.{◌≡◌, ◌&&◌, ◌++◌, IfOk, int_le, bytes_eq, codes, decimal, string_bytes};
 ghost use Rattle.std.specs.List.{list_any};
 ghost use Rattle.scene_toml.specs.Keys.{prefix, printed};
 ghost use Rattle.scene_toml.specs.Readings.{is_known};
 
 use crate::texts::KeyText;
+use itoa::Buffer;
+use space3::NUMBER_LIMIT;
 use std::alloc::{AllocError, Global};
 use std::marker::Model;
-use surface_mesh::{LEAST_DHAT, MOST_DENSITY, MOST_DHAT, MOST_GRAVITY, MOST_KAPPA};
+use surface_mesh::{
+    FASTEST, LEAST_DHAT, MOST_DENSITY, MOST_DHAT, MOST_GRAVITY, MOST_KAPPA, MOST_MODULUS,
+    MOST_PARTS,
+};
 
 /// The longest name of a file in bytes: with a frame's number and ending it stays within what file systems take, 255.
 pub const NAME_LIMIT: usize = 200;
@@ -42,10 +47,18 @@ pub(crate) const STIFFNESSES: Range = Range(1, MOST_KAPPA);
 
 pub(crate) const DENSITIES: Range = Range(1, MOST_DENSITY);
 
-/// What is 0 until another value has a meaning: decimal digits and moduli.
+pub(crate) const MODULI: Range = Range(0, MOST_MODULUS);
+
+pub(crate) const TAGS: Range = Range(-(NUMBER_LIMIT as i64), NUMBER_LIMIT as i64);
+
+pub(crate) const PART_COUNTS: Range = Range(0, MOST_PARTS as i64);
+
+pub(crate) const VELOCITIES: Range = Range(-(FASTEST as i64), FASTEST as i64);
+
+/// What is 0 until another value has a meaning: decimal digits.
 pub(crate) const ZERO: Range = Range(0, 0);
 
-/// A key: its name, and what it allows. That of a table has no range.
+/// A key: its name, and what it allows. That of a table or of a truth value has no range.
 #[derive(Drop)]
 pub(crate) struct Key(&'static str, Range);
 
@@ -62,6 +75,8 @@ impl Model for Key {
 pub(crate) enum Section {
     Top,
     Material,
+    /// The part at this position of the array.
+    Part(usize),
 }
 
 pub(crate) const MESH: Key = Key("mesh", NAME_LENGTHS);
@@ -86,15 +101,25 @@ pub(crate) const MATERIAL: Key = Key("material", ZERO);
 
 pub(crate) const DENSITY: Key = Key("density", DENSITIES);
 
-pub(crate) const MU: Key = Key("mu", ZERO);
+pub(crate) const MU: Key = Key("mu", MODULI);
 
-pub(crate) const LAMBDA: Key = Key("lambda", ZERO);
+pub(crate) const LAMBDA: Key = Key("lambda", MODULI);
 
-const TOP_KEYS: [Key; 10] = [
-    MESH, OUT, DIGITS, FRAMES, BUDGET, TOL, GRAVITY, DHAT, KAPPA, MATERIAL,
+pub(crate) const FIXED: Key = Key("fixed", ZERO);
+
+pub(crate) const VELOCITY: Key = Key("velocity", VELOCITIES);
+
+pub(crate) const PART: Key = Key("part", PART_COUNTS);
+
+pub(crate) const TAG: Key = Key("tag", TAGS);
+
+const TOP_KEYS: [Key; 11] = [
+    MESH, OUT, DIGITS, FRAMES, BUDGET, TOL, GRAVITY, DHAT, KAPPA, MATERIAL, PART,
 ];
 
-const MATERIAL_KEYS: [Key; 3] = [DENSITY, MU, LAMBDA];
+const MATERIAL_KEYS: [Key; 5] = [DENSITY, MU, LAMBDA, FIXED, VELOCITY];
+
+const PART_KEYS: [Key; 6] = [TAG, DENSITY, MU, LAMBDA, FIXED, VELOCITY];
 
 impl Key {
     /// The key's name in its table.
@@ -120,20 +145,31 @@ impl Key {
 }
 
 // What the keys of a section are printed after.
-fn prefix(section: Section) -> &'static str
-    ensures { result.now ≡ prefix section }
+fn prefix(alloc: Global, section: Section) -> Result<String, AllocError>
+    ensures { IfOk result (λ text. string_bytes text ≡ prefix section) }
 {
     match section {
-        Section::Top => "",
-        Section::Material => "material.",
+        Section::Top => Ok(String::new(alloc)),
+        Section::Material => String::from_str(alloc, "material."),
+        Section::Part(index) => part_prefix(alloc, index),
     }
+}
+
+fn part_prefix(alloc: Global, index: usize) -> Result<String, AllocError>
+    ensures { IfOk result (λ text. string_bytes text ≡ codes "part." ++ decimal index ++ codes ".") }
+{
+    let mut digits = Buffer::new();
+    let mut text = String::from_str(alloc, "part.")?;
+    text.push_str(digits.format(index))?;
+    text.push_str(".")?;
+    Ok(text)
 }
 
 /// A name as it is printed.
 pub(crate) fn printed(alloc: Global, section: Section, name: &str) -> Result<KeyText, AllocError>
     ensures { IfOk result (λ text. text ≡ printed section name.now) }
 {
-    let mut text = String::from_str(alloc, prefix(section))?;
+    let mut text = prefix(alloc, section)?;
     text.push_str(name)?;
     Ok(KeyText::of_text(text))
 }
@@ -151,5 +187,6 @@ pub(crate) fn is_known(section: Section, name: &str) -> bool
     match section {
         Section::Top => is_among(&TOP_KEYS, name),
         Section::Material => is_among(&MATERIAL_KEYS, name),
+        Section::Part(_) => is_among(&PART_KEYS, name),
     }
 }

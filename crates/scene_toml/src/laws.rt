@@ -2,7 +2,8 @@
 ghost use Rattle.std.specs.Prelude.{◌≡◌, List, ℕ, Ok};
 ghost use Rattle.toml.specs.Data.{Members};
 ghost use Rattle.scene_toml.specs.declared.scene.Scene.{Scene};
-ghost use Rattle.scene_toml.specs.Readings.{first_refusal, refusal, scene_keys};
+ghost use Rattle.scene_toml.specs.Reading.{first_refusal, refusal};
+ghost use Rattle.scene_toml.specs.Readings.{scene_keys};
 ghost use Rattle.scene_toml.specs.Scenes.{IsScene, scene_in, scene_of_text};
 
 /// Each scene that a text means is in range.

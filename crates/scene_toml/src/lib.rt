@@ -3,6 +3,7 @@
 
 mod keys;
 mod laws;
+mod parts;
 mod refusal;
 mod scene;
 mod tables;

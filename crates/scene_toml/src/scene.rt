@@ -1,24 +1,23 @@
 //! Reading a scene.
-ghost use Rattle.std.specs.Prelude.{IfOk};
+ghost use Rattle.std.specs.Prelude.{◌≡◌, IfOk, map};
+ghost use Rattle.scene_toml.specs.Parts.{with_base};
 ghost use Rattle.toml.specs.View.{table_view};
 ghost use Rattle.scene_toml.specs.Gives.{Gives};
 ghost use Rattle.scene_toml.specs.Calls.{material_at, material_in};
 ghost use Rattle.scene_toml.specs.Scenes.{IsScene, scene_in, scene_of_members, scene_of_text};
 
 use crate::keys::{
-    BUDGET, DENSITY, DHAT, DIGITS, FRAMES, GRAVITY, KAPPA, LAMBDA, MATERIAL, MESH, MU, OUT,
-    Section, TOL,
+    BUDGET, DENSITY, DHAT, DIGITS, FIXED, FRAMES, GRAVITY, KAPPA, LAMBDA, MATERIAL, MESH, MU, OUT,
+    Section, TOL, VELOCITY,
 };
+use crate::parts::{PartKeys, parts_at};
 use crate::refusal::{ReadSceneErr, SceneErr};
 use crate::tables::{first_unknown, value_at};
 use crate::texts::NameText;
-use crate::values::{integer_at, missing, text_at, vector_at, wrong_type};
-use space3::V3;
-use std::alloc::Global;
+use crate::values::{ORIGIN, bool_at, integer_at, missing, text_at, vector_at, wrong_type};
+use std::alloc::{AllocError, Global};
 use surface_mesh::{Material, Numbers, PartList};
 use toml::Table;
-
-const ORIGIN: V3 = V3 { x: 0, y: 0, z: 0 };
 
 /// A scene: which mesh moves under which numbers, for how many frames, and where they go.
 #[derive(Drop)]
@@ -39,19 +38,21 @@ pub struct Scene {
     pub numbers: Numbers,
 }
 
-// The material that its table gives, at rest.
+// The material that its table gives.
 fn material_in(alloc: Global, table: &Table) -> Result<Material, ReadSceneErr>
     ensures { Gives result (material_in (table_view table.now)) }
 {
     let density = integer_at(alloc, Section::Material, &DENSITY, table)?;
     let mu = integer_at(alloc, Section::Material, &MU, table)?;
     let lambda = integer_at(alloc, Section::Material, &LAMBDA, table)?;
+    let fixed = bool_at(alloc, Section::Material, &FIXED, false, table)?;
+    let velocity = vector_at(alloc, Section::Material, &VELOCITY, ORIGIN, table)?;
     Ok(Material {
         density,
         mu,
         lambda,
-        fixed: false,
-        velocity: ORIGIN,
+        fixed,
+        velocity,
     })
 }
 
@@ -65,6 +66,31 @@ fn material_at(alloc: Global, table: &Table) -> Result<Material, ReadSceneErr>
         Some(table) => material_in(alloc, table),
         None => Err(wrong_type(alloc, Section::Top, &MATERIAL)?),
     }
+}
+
+// The parts with their materials.
+fn part_list(alloc: Global, base: Material, parts: &[PartKeys]) -> Result<PartList, AllocError>
+    ensures { IfOk result (λ list. list ≡ map (with_base base) parts.now) }
+{
+    let mut list = Vec::with_capacity(alloc, parts.len())?;
+    for part in parts {
+        list.push(with_base(base, part))?;
+    }
+    Ok(PartList::of_vec(list))
+}
+
+// The material of a part: the base material, with what the part has in its place.
+fn with_base(base: Material, part: &PartKeys) -> (i32, Material)
+    ensures { result ≡ with_base base part.now }
+{
+    let material = Material {
+        density: part.density.unwrap_or(base.density),
+        mu: part.mu.unwrap_or(base.mu),
+        lambda: part.lambda.unwrap_or(base.lambda),
+        fixed: part.fixed.unwrap_or(base.fixed),
+        velocity: part.velocity.unwrap_or(base.velocity),
+    };
+    (part.tag, material)
 }
 
 // The scene that a table with no unknown key gives.
@@ -81,7 +107,8 @@ fn scene_in(alloc: Global, table: &Table) -> Result<Scene, ReadSceneErr>
     let dhat = integer_at(alloc, Section::Top, &DHAT, table)?;
     let kappa = integer_at(alloc, Section::Top, &KAPPA, table)?;
     let base = material_at(alloc, table)?;
-    let parts = PartList::of_vec(Vec::new(alloc));
+    let given = parts_at(alloc, table)?;
+    let parts = part_list(alloc, base, given.items())?;
     Ok(Scene {
         mesh,
         out,

@@ -6,7 +6,7 @@ ghost use Rattle.scene_toml.specs.declared.refusal.ReadSceneErr.TheVariants.{Sce
 ghost use Rattle.scene_toml.specs.declared.refusal.SceneErr.TheVariants.{Missing, WrongType};
 ghost use Rattle.scene_toml.specs.Gives.{Gives};
 ghost use Rattle.scene_toml.specs.Keys.{printed};
-ghost use Rattle.scene_toml.specs.Calls.{integer_at, text_at, vector_at};
+ghost use Rattle.scene_toml.specs.Calls.{bool_at, integer_at, optional_bool_at, optional_integer_at, optional_vector_at, text_at, vector_at};
 ghost use Rattle.scene_toml.specs.Values.{in_range, components_of, three_integers};
 
 use crate::keys::{Key, Section};
@@ -16,6 +16,8 @@ use crate::texts::NameText;
 use space3::V3;
 use std::alloc::{AllocError, Global};
 use toml::{Table, Value};
+
+pub(crate) const ORIGIN: V3 = V3 { x: 0, y: 0, z: 0 };
 
 /// The refusal of a table without the key.
 pub(crate) fn missing(
@@ -42,7 +44,12 @@ pub(crate) fn wrong_type(
 }
 
 // The number, where it lies in the key's range.
-fn in_range(alloc: Global, section: Section, key: &Key, number: i64) -> Result<i64, ReadSceneErr>
+pub(crate) fn in_range(
+    alloc: Global,
+    section: Section,
+    key: &Key,
+    number: i64,
+) -> Result<i64, ReadSceneErr>
     ensures reading { Gives result (in_range section key.now number) }
     ensures range { IfOk result (IsFrom key.now.least key.now.most) }
 {
@@ -70,6 +77,25 @@ pub(crate) fn integer_at(
         return Err(wrong_type(alloc, section, key)?);
     };
     in_range(alloc, section, key, number)
+}
+
+/// The truth value at a key, or what stands for one that is absent.
+pub(crate) fn bool_at(
+    alloc: Global,
+    section: Section,
+    key: &Key,
+    absent: bool,
+    table: &Table,
+) -> Result<bool, ReadSceneErr>
+    ensures { Gives result (bool_at section key.now absent (table_view table.now)) }
+{
+    let Some(value) = value_at(table, key.name()) else {
+        return Ok(absent);
+    };
+    match value.as_bool() {
+        Some(truth) => Ok(truth),
+        None => Err(wrong_type(alloc, section, key)?),
+    }
 }
 
 /// The text at a key, whose length in bytes has to lie in the key's range.
@@ -140,4 +166,49 @@ pub(crate) fn vector_at(
         return Err(wrong_type(alloc, section, key)?);
     };
     components_in_range(alloc, section, key, vector)
+}
+
+/// The integer at a key that may be absent.
+pub(crate) fn optional_integer_at(
+    alloc: Global,
+    section: Section,
+    key: &Key,
+    table: &Table,
+) -> Result<Option<i64>, ReadSceneErr>
+    ensures { Gives result (optional_integer_at section key.now (table_view table.now)) }
+{
+    match value_at(table, key.name()) {
+        Some(_) => Ok(Some(integer_at(alloc, section, key, table)?)),
+        None => Ok(None),
+    }
+}
+
+/// The truth value at a key that may be absent.
+pub(crate) fn optional_bool_at(
+    alloc: Global,
+    section: Section,
+    key: &Key,
+    table: &Table,
+) -> Result<Option<bool>, ReadSceneErr>
+    ensures { Gives result (optional_bool_at section key.now (table_view table.now)) }
+{
+    match value_at(table, key.name()) {
+        Some(_) => Ok(Some(bool_at(alloc, section, key, false, table)?)),
+        None => Ok(None),
+    }
+}
+
+/// The vector at a key that may be absent.
+pub(crate) fn optional_vector_at(
+    alloc: Global,
+    section: Section,
+    key: &Key,
+    table: &Table,
+) -> Result<Option<V3>, ReadSceneErr>
+    ensures { Gives result (optional_vector_at section key.now (table_view table.now)) }
+{
+    match value_at(table, key.name()) {
+        Some(_) => Ok(Some(vector_at(alloc, section, key, ORIGIN, table)?)),
+        None => Ok(None),
+    }
 }

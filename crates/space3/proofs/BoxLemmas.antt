@@ -92,10 +92,10 @@ ordered x xs = chain _ x _ (fold-int_min_bounds x xs (least_of (x ∷ xs)) refl)
     chain a b c h k = omega (arith, ints)
 
 -- what holds of each number holds of the least and of the greatest
-least-has : (P : ℤ → Type 0) (x : ℤ) (xs : List ℤ) → All P (x ∷ xs) → P (least_of (x ∷ xs))
+pub least-has : (P : ℤ → Type 0) (x : ℤ) (xs : List ℤ) → All P (x ∷ xs) → P (least_of (x ∷ xs))
 least-has P x xs h = one_has P x (least_of (x ∷ xs)) xs h (fold-int_min_reached x xs (least_of (x ∷ xs)) refl)
 
-greatest-has : (P : ℤ → Type 0) (x : ℤ) (xs : List ℤ) → All P (x ∷ xs) → P (greatest_of (x ∷ xs))
+pub greatest-has : (P : ℤ → Type 0) (x : ℤ) (xs : List ℤ) → All P (x ∷ xs) → P (greatest_of (x ∷ xs))
 greatest-has P x xs h = one_has P x (greatest_of (x ∷ xs)) xs h (fold-int_max_reached x xs (greatest_of (x ∷ xs)) refl)
 
 -- a bound of all points is one of both corners

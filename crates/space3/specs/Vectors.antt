@@ -24,6 +24,10 @@ between p q a b = sum_of (multiple (pos q -ℤ pos p) a) (multiple (pos p) b)
 abbrev pub dot_product : V3 → V3 → ℤ
 dot_product a b = a.x *ℤ b.x +ℤ a.y *ℤ b.y +ℤ a.z *ℤ b.z
 
+-- the square of the length
+abbrev pub squared_length : V3 → ℤ
+squared_length a = dot_product a a
+
 abbrev pub cross_product : V3 → V3 → V3
 cross_product a b =
     vector (a.y *ℤ b.z -ℤ a.z *ℤ b.y) (a.z *ℤ b.x -ℤ a.x *ℤ b.z) (a.x *ℤ b.y -ℤ a.y *ℤ b.x)

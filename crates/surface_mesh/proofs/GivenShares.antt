@@ -1,16 +1,16 @@
 -- Shares that are with_share to nodes.
-use Rattle.std.proofs.Common.{◌≡◌, ℕ, suc, ◌+◌, ◌*◌, ◌^◌, ◌<◌, ◌≤◌, ℤ, ◌+ℤ◌, Bool, true, false, cond, ◌||◌, List, [], ◌∷◌, set, map, ◌++◌, length, get_or, take, drop, refl, ap, ◌∙◌, subst, sym, arith, inl, inr}
+use Rattle.std.proofs.Common.{◌≡◌, ℕ, suc, ◌+◌, ◌*◌, ◌^◌, ◌<◌, ◌≤◌, ℤ, ◌+ℤ◌, Bool, true, false, cond, ◌||◌, List, [], ◌∷◌, set, map, ◌++◌, length, get_or, take, drop, refl, ap, ◌∙◌, subst, sym, arith}
 use Rattle.std.specs.Prelude.{All, ◌==◌, if◌then◌else◌}
 use Rattle.std.specs.List.{IsDistinct, list_any, range_with_len}
-use Rattle.std.proofs.lemmas.Bool.{cases_lt, cases_eq, eq-eqb, eqb-true, eqb-false, ne_eqb, true≢false}
-use Rattle.std.proofs.lemmas.List.{length-take, length-set, get_or-set_other, same_lists}
-use Rattle.std.proofs.lemmas.List.Elements.{All-from_recursion, All-head, All-tail, All-set, All-get_or, All-weaker}
-use Rattle.std.proofs.lemmas.Grind.{get_or-set_at}
+use Rattle.std.proofs.lemmas.Bool.{eq-eqb, eqb-true, eqb-false, ne_eqb, true≢false}
+use Rattle.std.proofs.lemmas.List.{length-take}
+use Rattle.std.proofs.lemmas.List.Elements.{All-from_recursion, All-head, All-tail, All-set, All-weaker}
 use Rattle.std.proofs.lemmas.Map.Keys.{IsDistinct-head, IsDistinct-tail}
 use Rattle.std.proofs.lemmas.List.Folds.{list_any_none}
-use Rattle.std.proofs.lemmas.List.FromFn.{length-map-range_with_len, get_or-map-range_with_len}
+use Rattle.std.proofs.lemmas.List.FromFn.{get_or-map-range_with_len}
 use Rattle.std.proofs.Math.Seq.{take-append_seam}
-use Rattle.std.proofs.Math.ListN.{get_or-eq_default}
+use Rattle.list_laws.proofs.CountedWrites.{set-counted}
+use Rattle.list_laws.proofs.Elements.{at_any}
 use Rattle.whole_laws.proofs.Order.{size_sum}
 use Rattle.space3.specs.Vectors.{AtMost}
 use Rattle.surface_mesh.specs.declared.shares.Share.{Share}
@@ -19,10 +19,6 @@ use Rattle.surface_mesh.specs.Calls.Shares.{with_share, share_sum, nothing}
 -- each mass is at most so much in absolute value
 abbrev pub AreLight : ℕ → List Share → Type 0
 AreLight most shares = All (λ share. AtMost most share.mass) shares
-
--- what holds of each element and of the default holds of each read
-pub at_any : {X : Type 0} (P : X → Type 0) (xs : List X) (i : ℕ) (d : X) → All P xs → P d → P (get_or xs i d)
-at_any P xs i d h k = elim (cases_lt i (length xs)) [ inl l ↦ All-get_or P xs i d l h | inr l ↦ subst P (sym (get_or-eq_default xs d l)) k ]
 
 sum_at_most : (m : ℕ) (a b : ℤ) → AtMost m a → AtMost (2 ^ 76) b → AtMost (m + 2 ^ 76) (a +ℤ b)
 sum_at_most m a b h k = record { bound = omega (arith, size_sum a b, h.bound, k.bound) }
@@ -57,26 +53,6 @@ light_at share shares nodes now i node few h k e = record { bound = omega (arith
 abbrev pub after : Share → (ℕ → Share) → List ℕ → ℕ → Share
 after share f nodes k = if list_any (λ node. node == k) nodes then share_sum (f k) share else f k
 
--- a write to a list of values, one for each number
-set-map-range : {X : Type 0} (f g : ℕ → X) (count i : ℕ) (x : X) → i < count → x ≡ g i → ((k : ℕ) → (i ≡ k → ⊥) → f k ≡ g k) → set (map f (range_with_len 0 count)) i x ≡ map g (range_with_len 0 count)
-set-map-range {X} f g count i x there e same =
-    same_lists (set old i x) (map g (range_with_len 0 count))
-    (length-set old i x ∙ length-map-range_with_len f 0 count ∙ sym (length-map-range_with_len g 0 count))
-    (λ k d l. each k d (omega (arith, l, length-set old i x, length-map-range_with_len f 0 count)))
-  where
-    old : List X
-    old = map f (range_with_len 0 count)
-
-    each : (k : ℕ) (d : X) → k < count → get_or (set (map f (range_with_len 0 count)) i x) k d ≡ get_or (map g (range_with_len 0 count)) k d
-    each k d l =
-        elim (cases_eq k i) [
-          | inl p ↦ get_or-set_at (map f (range_with_len 0 count)) i k x d p (omega (arith, there, length-map-range_with_len f 0 count)) ∙ e ∙ ap g (sym p) ∙ sym (read g k d l)
-          | inr q ↦ get_or-set_other (map f (range_with_len 0 count)) i k x d q ∙ read f k d l ∙ same k (λ p. q (sym p)) ∙ sym (read g k d l)
-        ]
-      where
-        read : (h : ℕ → X) (k : ℕ) (d : X) → k < count → get_or (map h (range_with_len 0 count)) k d ≡ h k
-        read h k d l = get_or-map-range_with_len h 0 count k k d l (omega arith)
-
 -- different nodes get the share once each
 pub with_share_at_different : (share : Share) (f : ℕ → Share) (count : ℕ) (nodes : List ℕ) → IsDistinct (λ i j. i == j) nodes → All (λ node. node < count) nodes → with_share share (map f (range_with_len 0 count)) nodes ≡ map (after share f nodes) (range_with_len 0 count)
 with_share_at_different share f count [] different there = refl
@@ -98,7 +74,7 @@ with_share_at_different share f count (n ∷ ns) different there =
 
     first : set (map f (range_with_len 0 count)) n (share_sum (get_or (map f (range_with_len 0 count)) n nothing) share) ≡ map (after share f (n ∷ [])) (range_with_len 0 count)
     first =
-        set-map-range f (after share f (n ∷ [])) count n (share_sum (get_or (map f (range_with_len 0 count)) n nothing) share) here
+        set-counted f (after share f (n ∷ [])) count n (share_sum (get_or (map f (range_with_len 0 count)) n nothing) share) here
         (ap (λ (s : Share). share_sum s share) (get_or-map-range_with_len f 0 count n n nothing here (omega arith)) ∙ chosen (n == n) (share_sum (f n) share) (f n) (eq-eqb n n refl))
         (λ k h. passed (n == k) (share_sum (f k) share) (f k) (ne_eqb n k h))
 

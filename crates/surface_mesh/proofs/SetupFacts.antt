@@ -16,12 +16,13 @@ use Rattle.space3.specs.declared.lists.Tet.{Tet}
 use Rattle.space3.specs.declared.mesh.Mesh.{Mesh}
 use Rattle.space3.specs.Mesh.{IsSound}
 use Rattle.space3.specs.Vectors.{AtMost, Within, origin}
+use Rattle.boundary.specs.Surface.{SurfaceLists}
 use Rattle.surface_mesh.specs.declared.materials.Material.{Material}
 use Rattle.surface_mesh.specs.declared.materials.Numbers.{Numbers}
 use Rattle.surface_mesh.specs.declared.setup.Setup.{Setup}
 use Rattle.surface_mesh.specs.declared.ranges.TheConstants.{FASTEST}
 use Rattle.surface_mesh.specs.Materials.{AreNumbers, IsMaterial, material_of, physical_tag}
-use Rattle.surface_mesh.specs.Setup.{IsSetup, has_node, is_fixed, mass_of, node_positions, rest_of, setup_of, tets_at, velocity_of, weight_of}
+use Rattle.surface_mesh.specs.Setup.{HasSurface, IsSetup, has_node, is_fixed, mass_of, node_positions, rest_of, setup_of, tets_at, velocity_of, weight_of}
 
 -- ---- lengths
 pub rest_length : (s : Setup) → IsSetup s → length s.rest ≡ length s.mesh.tets
@@ -112,6 +113,6 @@ fixed_node_stands s node h e =
     both f g (Some n) k e = let e' : f n ≡ true = cc in ap Some (k n e')
 
 -- ---- what was built
-pub built_is_setup : (mesh : Mesh) (numbers : Numbers) (s : Setup) → IsSound mesh → AreNumbers numbers → s ≡ setup_of mesh numbers → IsSetup s
-built_is_setup mesh numbers s h k e =
-    subst IsSetup (sym e) (record { mesh_is_sound = h; in_range = k; built = refl })
+pub built_is_setup : (mesh : Mesh) (surface : SurfaceLists) (numbers : Numbers) (s : Setup) → IsSound mesh → HasSurface mesh surface → AreNumbers numbers → s ≡ setup_of mesh surface numbers → IsSetup s
+built_is_setup mesh surface numbers s h j k e =
+    subst IsSetup (sym e) (record { mesh_is_sound = h; has_surface = j; in_range = k; built = refl })

@@ -8,6 +8,7 @@ use Rattle.std.proofs.lemmas.Simd.{map-map}
 use Rattle.space3.specs.declared.vectors.V3.{V3}
 use Rattle.space3.specs.declared.mesh.Mesh.{Mesh}
 use Rattle.space3.specs.Vectors.{origin}
+use Rattle.boundary.specs.Surface.{SurfaceLists}
 use Rattle.surface_mesh.specs.declared.materials.Numbers.{Numbers}
 use Rattle.surface_mesh.specs.declared.shares.Share.{Share}
 use Rattle.surface_mesh.specs.Materials.{material_of}
@@ -29,12 +30,12 @@ velocity_is : (mesh : Mesh) (numbers : Numbers) (node : ℕ) → start_velocity 
 velocity_is mesh numbers node = λ i. if stays_is mesh numbers node i then origin else or_else (λ tet. (material_of numbers tet).velocity) (slice_get (tets_at mesh node) 0) origin i
 
 -- the setup of a mesh, out of its rest determinants and shares
-pub setup_is : (mesh : Mesh) (numbers : Numbers) (rest mass : List ℤ) (fixed : List Bool) (velocity : List V3) (shares : List Share)
+pub setup_is : (mesh : Mesh) (surface : SurfaceLists) (numbers : Numbers) (rest mass : List ℤ) (fixed : List Bool) (velocity : List V3) (shares : List Share)
     → rest ≡ map (rest_of mesh) mesh.tets → shares ≡ map (share_at mesh numbers) (node_positions mesh)
     → mass ≡ map (λ share. share.mass) shares → fixed ≡ map stays shares → velocity ≡ map start_velocity shares
-    → record { mesh = mesh; numbers = numbers; rest = rest; mass = mass; fixed = fixed; velocity = velocity } ≡ setup_of mesh numbers
-setup_is mesh numbers rest mass fixed velocity shares rest-is shares-are mass-is fixed-is velocity-is =
-    λ i. record { mesh = mesh; numbers = numbers; rest = rest-is i; mass = masses i; fixed = flags i; velocity = velocities i }
+    → record { mesh = mesh; surface = surface; numbers = numbers; rest = rest; mass = mass; fixed = fixed; velocity = velocity } ≡ setup_of mesh surface numbers
+setup_is mesh surface numbers rest mass fixed velocity shares rest-is shares-are mass-is fixed-is velocity-is =
+    λ i. record { mesh = mesh; surface = surface; numbers = numbers; rest = rest-is i; mass = masses i; fixed = flags i; velocity = velocities i }
   where
     taken : {X : Type 0} (f : Share → X) (xs : List X) → xs ≡ map f shares → xs ≡ map (λ node. f (share_at mesh numbers node)) (node_positions mesh)
     taken f xs e = e ∙ ap (map f) shares-are ∙ map-map f (share_at mesh numbers) (node_positions mesh)

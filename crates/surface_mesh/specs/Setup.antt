@@ -6,7 +6,8 @@ use Rattle.space3.specs.declared.vectors.V3.{V3}
 use Rattle.space3.specs.declared.lists.Tet.{Tet}
 use Rattle.space3.specs.declared.mesh.Mesh.{Mesh}
 use Rattle.space3.specs.Vectors.{origin}
-use Rattle.space3.specs.Mesh.{IsSound, rest_determinant}
+use Rattle.space3.specs.Mesh.{HasNodes, IsSound, rest_determinant}
+use Rattle.boundary.specs.Surface.{AreSurfaceLists, IsSurface, SurfaceLists}
 use Rattle.surface_mesh.specs.declared.materials.Numbers.{Numbers}
 use Rattle.surface_mesh.specs.declared.setup.Setup.{Setup}
 use Rattle.surface_mesh.specs.Materials.{AreNumbers, material_of}
@@ -47,10 +48,11 @@ velocity_of mesh numbers node =
 abbrev pub node_positions : Mesh → List ℕ
 node_positions mesh = range_with_len 0 (length mesh.numbers)
 
--- what a mesh and a scene's numbers make
-abbrev pub setup_of : Mesh → Numbers → Setup
-setup_of mesh numbers = record {
+-- what a mesh, its surface and a scene's numbers make
+abbrev pub setup_of : Mesh → SurfaceLists → Numbers → Setup
+setup_of mesh surface numbers = record {
   mesh = mesh;
+  surface = surface;
   numbers = numbers;
   rest = map (rest_of mesh) mesh.tets;
   mass = map (mass_of mesh numbers) (node_positions mesh);
@@ -58,8 +60,15 @@ setup_of mesh numbers = record {
   velocity = map (velocity_of mesh numbers) (node_positions mesh);
 }
 
--- a setup as it is built, of a sound mesh and numbers in range
+-- the surface of a mesh, with what is known of each surface
+pub record HasSurface (mesh : Mesh) (surface : SurfaceLists) : Type 0 where
+  pub is_surface : IsSurface mesh surface
+  pub lists : AreSurfaceLists surface
+  pub placed : HasNodes mesh.places surface.vertices
+
+-- a setup as it is built, of a sound mesh, its surface and numbers in range
 pub record IsSetup (setup : Setup) : Type 0 where
   pub mesh_is_sound : IsSound setup.mesh
+  pub has_surface : HasSurface setup.mesh setup.surface
   pub in_range : AreNumbers setup.numbers
-  pub built : setup ≡ setup_of setup.mesh setup.numbers
+  pub built : setup ≡ setup_of setup.mesh setup.surface setup.numbers

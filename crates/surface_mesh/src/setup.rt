@@ -2,19 +2,21 @@
 ghost use Rattle.std.specs.Prelude.{◌≡◌, IfOk, map};
 ghost use Rattle.space3.specs.Mesh.{IsSound};
 ghost use Rattle.surface_mesh.specs.Materials.{AreNumbers};
-ghost use Rattle.surface_mesh.specs.Setup.{node_positions, rest_of, setup_of};
+ghost use Rattle.surface_mesh.specs.Setup.{HasSurface, IsSetup, node_positions, rest_of, setup_of};
 ghost use Rattle.surface_mesh.specs.Calls.Shares.{share_at};
 
 use crate::lists::{FixedList, MassList, RestList, VelocityList};
 use crate::materials::Numbers;
 use crate::shares::{Share, add_share, fixed_flags, masses, velocities};
+use boundary::Surface;
 use space3::{Mesh, rest_det};
 use std::alloc::{AllocError, Global};
 
-/// A mesh with a scene's numbers, and what they give each tetrahedron and each node.
+/// A mesh with its surface and a scene's numbers, and what they give each tetrahedron and each node.
 #[derive(Drop)]
 pub struct Setup {
     pub mesh: Mesh,
+    pub surface: Surface,
     pub numbers: Numbers,
     /// One rest determinant per tetrahedron.
     pub rest: RestList,
@@ -27,11 +29,18 @@ pub struct Setup {
 }
 
 impl Setup {
-    /// The bodies of a mesh under these numbers. Where memory is wanting, both are given up.
-    pub fn build(alloc: Global, mesh: Mesh, numbers: Numbers) -> Result<Self, AllocError>
+    /// The bodies of a mesh with its surface, under these numbers. Where memory is wanting, all three are given up.
+    pub fn build(
+        alloc: Global,
+        mesh: Mesh,
+        surface: Surface,
+        numbers: Numbers,
+    ) -> Result<Self, AllocError>
         requires sound { IsSound mesh }
+        requires surface { HasSurface mesh surface }
         requires in_range { AreNumbers numbers }
-        ensures { IfOk result (λ setup. setup ≡ setup_of mesh numbers) }
+        ensures built { IfOk result (λ setup. setup ≡ setup_of mesh surface numbers) }
+        ensures setup { IfOk result IsSetup }
     {
         let (rest, shares) = sums_of(alloc, &mesh, &numbers)?;
         let mass = masses(alloc, &shares)?;
@@ -39,6 +48,7 @@ impl Setup {
         let velocity = velocities(alloc, &shares)?;
         Ok(Setup {
             mesh,
+            surface,
             numbers,
             rest: RestList::of_vec(rest),
             mass: MassList::of_vec(mass),

@@ -52,6 +52,15 @@ fn a_scene_is_read(rt: HostRuntime) -> Result<(), Fail> {
         said_with(alloc, "gravity = [0, 0, -512]\n", "")?.as_str(),
         "t.msh fall 3 0"
     );
+    assert_eq!(rt;
+        said_with(
+            alloc,
+            "lambda = 0",
+            "lambda = 0\nfixed = true\nvelocity = [-65536, 65536, 0]"
+        )?
+        .as_str(),
+        "t.msh fall 3 -512"
+    );
     Ok(())
 }
 
@@ -74,6 +83,21 @@ fn the_first_fault_is_named(rt: HostRuntime) -> Result<(), Fail> {
         ),
         ("mu = 0\nlambda = 0", "", "missing key material.mu"),
         ("lambda = 0", "lambda = 0.0", "wrong type material.lambda"),
+        (
+            "lambda = 0",
+            "lambda = 0\nfixed = 1",
+            "wrong type material.fixed",
+        ),
+        (
+            "lambda = 0",
+            "lambda = 0\nvelocity = [0, 65537, 0]",
+            "out of range material.velocity 65537",
+        ),
+        (
+            "lambda = 0",
+            "lambda = 0\nvelocity = 1\nfixed = 1",
+            "wrong type material.fixed",
+        ),
         ("frames = 3", "frames = true", "wrong type frames"),
         ("\"fall\"", "\"\"", "out of range out 0"),
         ("-512]", "-512, 0]", "wrong type gravity"),
@@ -83,9 +107,64 @@ fn the_first_fault_is_named(rt: HostRuntime) -> Result<(), Fail> {
             "[0, 2000000, 3000000]",
             "out of range gravity 2000000",
         ),
+        // parts, which are also looked at where the array isn't one of tables
+        (
+            "lambda = 0",
+            "lambda = 0\n[[part]]\nmu = -1",
+            "missing key part.0.tag",
+        ),
+        (
+            "lambda = 0",
+            "lambda = 0\n[[part]]\ntag = 1\n[[part]]\ntag = 1\nmu = -1",
+            "out of range part.1.tag 1",
+        ),
+        (
+            "lambda = 0",
+            "lambda = 0\n[[part]]\ntag = 1\n[[part]]\ntag = 2\nmu = -1",
+            "out of range part.1.mu -1",
+        ),
+        (
+            "lambda = 0",
+            "lambda = 0\n[[part]]\ntag = 2147483648",
+            "out of range part.0.tag 2147483648",
+        ),
+        (
+            "lambda = 0",
+            "lambda = 0\n[part]\ntag = 1\nfoo = 2",
+            "wrong type part",
+        ),
+        (
+            "kappa = 1",
+            "kappa = 1\npart = [{tag = 1}, 2]",
+            "wrong type part",
+        ),
+        (
+            "kappa = 1",
+            "kappa = 1\npart = [{tag = 1}, {foo = 2}, 3]",
+            "unknown key part.1.foo",
+        ),
     ] {
         assert_eq!(rt; said_with(alloc, part, other)?.as_str(), fault);
     }
+    Ok(())
+}
+
+#[test]
+fn a_part_has_what_it_leaves_out_from_the_base_material(rt: HostRuntime) -> Result<(), Fail> {
+    let alloc = rt.alloc();
+    let parts =
+        "lambda = 7\nvelocity = [1, 2, 3]\n[[part]]\ntag = -5\nmu = 9\n[[part]]\ntag = 2\nfixed = true\nvelocity = [0, 0, 0]";
+    let text = FALL.replace(alloc, "lambda = 0", parts)?;
+    let mut found = String::new(alloc);
+    if let Ok(scene) = read_scene(alloc, text.as_bytes()) {
+        for (tag, material) in scene.numbers.parts.items() {
+            let (density, mu, lambda) = (material.density, material.mu, material.lambda);
+            let (fixed, x) = (material.fixed, material.velocity.x);
+            let line = format!(in alloc; "{tag}: {density} {mu} {lambda} {fixed} {x}\n")?;
+            found.push_str(line.as_str())?;
+        }
+    }
+    assert_eq!(rt; found.as_str(), "-5: 1 9 7 false 1\n2: 1 0 7 true 0\n");
     Ok(())
 }
 
@@ -105,8 +184,8 @@ fn each_integer_has_its_range(rt: HostRuntime) -> Result<(), Fail> {
         ("dhat", "dhat = 2\n", [1, 2, 1024, 1025]),
         ("kappa", "kappa = 1\n", [0, 1, 1 << 40, (1 << 40) + 1]),
         ("density", "density = 1\n", [0, 1, 1024, 1025]),
-        ("mu", "mu = 0\n", [-1, 0, 0, 1]),
-        ("lambda", "lambda = 0\n", [-1, 0, 0, 1]),
+        ("mu", "mu = 0\n", [-1, 0, 1 << 30, (1 << 30) + 1]),
+        ("lambda", "lambda = 0\n", [-1, 0, 1 << 30, (1 << 30) + 1]),
     ] {
         for value in [below, above] {
             let said = said_at(alloc, key, line, value)?;

@@ -1,2 +1,4 @@
 pub mod Adjugates
+pub mod Associative
 pub mod Products
+pub mod Sizes

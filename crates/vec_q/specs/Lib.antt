@@ -1,3 +1,4 @@
 pub mod Matrices
 pub mod Raws
+pub mod Rows
 pub mod Widths

@@ -1,6 +1,7 @@
 //! 3x3 matrices of fixed point and their products.
 ghost use Rattle.std.specs.Prelude.{◌≡◌, ◌+◌, ◌≤◌};
 ghost use Rattle.vec_q.specs.Raws.{raws, raw_columns};
+ghost use Rattle.vec_q.specs.Rows.{rows_of};
 ghost use Rattle.vec_q.specs.Widths.{AreBelow};
 ghost use Rattle.vec_q.specs.Matrices.{transposed, times_vector, product_of, cofactors, adjugate};
 
@@ -123,5 +124,17 @@ impl<const F: u32, const B: u32> MatQ<F, B> {
             second: self.second.narrowed_into(),
             third: self.third.narrowed_into(),
         }
+    }
+
+    /// The rows of the raw numbers.
+    pub fn rows(self) -> [[i128; 3]; 3]
+        ensures { result ≡ rows_of (raw_columns self.entry) }
+    {
+        let columns = self.transposed();
+        [
+            columns.first.components(),
+            columns.second.components(),
+            columns.third.components(),
+        ]
     }
 }

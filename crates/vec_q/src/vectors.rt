@@ -2,6 +2,7 @@
 ghost use Rattle.std.specs.Prelude.{◌≡◌, ◌^◌, ◌≤◌, ◌<◌, ◌+◌, ◌-ℤ◌, ◌*ℤ◌, unsigned_abs};
 ghost use Rattle.space3.specs.Vectors.{sum_of, difference, multiple, dot_product, cross_product};
 ghost use Rattle.vec_q.specs.Raws.{raws};
+ghost use Rattle.vec_q.specs.Rows.{components};
 ghost use Rattle.vec_q.specs.Widths.{IsBelow};
 
 use num_q::Q;
@@ -139,6 +140,13 @@ impl<const F: u32, const B: u32> VecQ<F, B> {
             y: self.y.narrowed_into(),
             z: self.z.narrowed_into(),
         }
+    }
+
+    /// The raw numbers.
+    pub fn components(self) -> [i128; 3]
+        ensures { result ≡ components (raws self.entry) }
+    {
+        [self.x.raw(), self.y.raw(), self.z.raw()]
     }
 }
 

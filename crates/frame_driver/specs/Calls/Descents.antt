@@ -5,7 +5,7 @@ use Rattle.space3.specs.declared.vectors.V3.{V3}
 use Rattle.surface_mesh.specs.declared.setup.Setup.{Setup}
 use Rattle.potential_sum.specs.Terms.{FrameTerms}
 use Rattle.line_search.specs.declared.step.Step.{Step}
-use Rattle.line_search.specs.Upright.{IsPose}
+use Rattle.line_search.specs.Poses.{IsPose}
 use Rattle.frame_driver.specs.declared.end.FrameEnd.{FrameEnd}
 use Rattle.frame_driver.specs.declared.frame.Next.{Next}
 use Rattle.frame_driver.specs.declared.frame.Next.TheVariants as next

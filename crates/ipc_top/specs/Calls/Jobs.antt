@@ -5,7 +5,7 @@ use Rattle.ipc_top.specs.declared.words.Command.TheVariants as held
 use Rattle.surface_mesh.specs.declared.materials.Numbers.{Numbers}
 use Rattle.surface_mesh.specs.declared.setup.Setup.{Setup}
 use Rattle.surface_mesh.specs.Setup.{IsSetup}
-use Rattle.surface_mesh.specs.Sturdy.{IsSturdy}
+use Rattle.surface_mesh.specs.Sturdy.{IsFit}
 use Rattle.ipc_top.specs.Commands.{Command, Check, RunScene}
 use Rattle.ipc_top.specs.Jobs.{Job}
 
@@ -26,6 +26,6 @@ job_of job numbers = record {
 }
 
 -- bodies as they are built, without a defect
-pub record AreSturdy (setup : Setup) : Type 0 where
+pub record AreFit (setup : Setup) : Type 0 where
   pub built : IsSetup setup
-  pub sturdy : IsSturdy setup
+  pub fit : IsFit setup

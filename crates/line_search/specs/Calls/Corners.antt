@@ -6,7 +6,7 @@ use Rattle.space3.specs.Mesh.{HasNodes, place_of}
 use Rattle.safe_motion.specs.declared.depth.TheConstants.{DEPTH}
 use Rattle.safe_motion.specs.Certificates.{VolumeCertificate}
 use Rattle.safe_motion.specs.Safety.{corners}
-use Rattle.line_search.specs.Upright.{HasShortEdges}
+use Rattle.potential_sum.specs.Upright.{HasShortEdges}
 
 -- the places of the four nodes
 abbrev pub corners_at : List V3 → List ℕ → List V3

@@ -1,5 +1,5 @@
 -- One halving of a direction.
-use Rattle.std.specs.Prelude.{◌≡◌, ℕ, List}
+use Rattle.std.specs.Prelude.{◌≡◌, ◌⊎◌, ℕ, List}
 use Rattle.space3.specs.declared.vectors.V3.{V3}
 use Rattle.space3.specs.Vectors.{origin}
 use Rattle.space3.specs.Moved.{halved, moved_by}
@@ -7,7 +7,8 @@ use Rattle.surface_mesh.specs.declared.setup.Setup.{Setup}
 use Rattle.potential_sum.specs.Terms.{FrameTerms}
 use Rattle.potential_sum.specs.Potential.{potential}
 use Rattle.line_search.specs.declared.halvings.Halving.{Halving}
-use Rattle.line_search.specs.Accepted.{IsFirstAccepted}
+use Rattle.line_search.specs.Accepted.{IsFirstAccepted, MovesANode}
+use Rattle.line_search.specs.Calls.PairCertificates.{CountsStep}
 
 -- the halved direction moves its node
 pub record Moves (half : ℕ) (direction : V3) : Type 0 where
@@ -24,3 +25,9 @@ pub record IsFirstHalving (setup : Setup) (terms : FrameTerms) (x direction : Li
   pub first : IsFirstAccepted setup terms x direction halving.half
   pub places : halving.places ≡ moved_by x direction halving.half
   pub lower : halving.lower ≡ potential setup terms halving.places
+
+-- a count stayed as it was; or the halving moves a node to places in reach, and it rose by at most the decisions of its
+-- step
+abbrev pub CountsHalving : Setup → (x direction : List V3) → (half : ℕ) → (old new : ℕ) → Type 0
+CountsHalving setup x direction half old new =
+    (new ≡ old) ⊎ (MovesANode direction half × CountsStep setup x (moved_by x direction half) old new)

@@ -1,7 +1,9 @@
-use Rattle.std.proofs.Common.{◌≡◌, ◌∙◌, w64, arith, le_refl, rules, to_z, of_z}
+use Rattle.std.proofs.Common.{◌≡◌, ◌∙◌, subst, sym, w64, arith, le_refl, rules, to_z, of_z}
 use Rattle.std.specs.Int.{w128}
 use Rattle.std.proofs.lemmas.Int.{to_z-of_z}
 use Rattle.frame_driver.proofs.Descents.{HasCome-push, at_budget, stalls, spends, descends_at}
+use Rattle.line_search.proofs.SafeSteps.{pose_is_upright}
+use Rattle.potential_sum.specs.Upright.{IsUpright}
 use Rattle.frame_driver.proofs.frame.descend.Goals as goal
 
 pub loop-taken-preserved : goal.loop-taken-preserved
@@ -27,3 +29,6 @@ pub returns : goal.returns
 returns c =
     descends_at _ _ _ _ _ _ _ _ (to_z-of_z w64 c.args.tol c.ranges.tol)
     (spends _ _ c.args.budget _ _ _ c.in-Step-2.field-0 (at_budget _ _ _ _ _ c.loop-taken.taken _ c.loop-taken.auto.taken-end c.loop-taken-test.false c.loop-taken.invariant.come) (rw c.in-Step-2.is at c.in_ok-next_at-2.ensures))
+
+pub energy-upper-requires-clause-pose : goal.energy-upper-requires-clause-pose
+energy-upper-requires-clause-pose c = subst (IsUpright c.args.setup.now) (sym c.in_ok-x.ensures) (pose_is_upright c.args.setup.now c.args.now.now c.requires.pose)

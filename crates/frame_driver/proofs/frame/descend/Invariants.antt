@@ -5,6 +5,6 @@ use Rattle.frame_driver.proofs.frame.descend.Given as goal
 
 abbrev pub invariant-loop-taken : goal.invariant-loop-taken
 invariant-loop-taken l = record {
-  come : HasCome l.setup l.tol l.terms l.now l.x l.taken;
-  upper : l.upper ≡ potential l.setup l.terms l.x;
+  come : HasCome l.setup l.tol l.terms.frame l.now l.x l.taken;
+  upper : l.upper ≡ potential l.setup l.terms.frame l.x;
 }

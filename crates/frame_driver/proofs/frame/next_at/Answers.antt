@@ -1,6 +1,7 @@
 use Rattle.std.proofs.Common.{◌≡◌, ◌∙◌, ℤ, pos, ◌≤ℤ◌, unsigned_abs, Bool, true, false, List, subst, w64}
 use Rattle.std.specs.Prelude.{All, IsTrue, ◌↔◌}
 use Rattle.std.proofs.lemmas.Int.{to_z-of_z}
+use Rattle.line_search.proofs.SafeSteps.{pose_is_upright}
 use Rattle.frame_driver.proofs.frame.next_at.Goals as goal
 
 -- no number is above the tolerance
@@ -27,3 +28,6 @@ returns-in-Some c = record {
   };
   pose = rw c.in-Some.is at c.in_ok-step_from.ensures.pose;
 }
+
+pub gradient-requires-clause-pose : goal.gradient-requires-clause-pose
+gradient-requires-clause-pose c = pose_is_upright c.args.setup.now c.args.x.now c.requires.ready.pose

@@ -9,6 +9,6 @@ loop-node-preserved c =
     let before = c.loop-node.made.items in
     let after = c.push.new.self.items in
     record {
-      value = counted_more (direction_at c.args.mass.now c.args.fixed.now c.args.slopes.now) c.loop-node.node c.node_direction.result before after c.loop-node.invariant.value c.node_direction.ensures.value c.in_ok-push.ensures.items;
+      value = counted_more (direction_at c.args.diagonal.now c.args.slopes.now) c.loop-node.node c.node_direction.result before after c.loop-node.invariant.value c.node_direction.ensures.value c.in_ok-push.ensures.items;
       short = all_more (Within DIRECTION_LIMIT) c.node_direction.result before after c.loop-node.invariant.short c.node_direction.ensures.short c.in_ok-push.ensures.items;
     }

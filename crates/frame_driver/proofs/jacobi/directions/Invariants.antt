@@ -8,6 +8,6 @@ use Rattle.frame_driver.proofs.jacobi.directions.Given as goal
 
 abbrev pub invariant-loop-node : goal.invariant-loop-node
 invariant-loop-node l = record {
-  value : l.made.items ≡ map (direction_at l.mass l.fixed l.slopes) (range_with_len 0 l.node);
+  value : l.made.items ≡ map (direction_at l.diagonal l.slopes) (range_with_len 0 l.node);
   short : All (Within DIRECTION_LIMIT) l.made.items;
 }

@@ -1,17 +1,13 @@
 use Rattle.std.proofs.Common.{◌≡◌, [], ◌∷◌, refl}
-use Rattle.surface_mesh.specs.Setup.{setup_of}
-use Rattle.ipc_top.specs.Acts.{Say}
-use Rattle.ipc_top.specs.Lines.{mesh_refused_line}
-use Rattle.ipc_top.specs.Meshes.{setup_outcome, MeshMeans, NoMesh, OfMesh}
-use Rattle.ipc_top.specs.Plans.{plan_of}
+use Rattle.ipc_top.specs.Meshes.{MeshMakes, MeshMeans, NoMesh, OfMesh, mesh_refused_plan}
 use Rattle.ipc_top.proofs.Outcomes.{some_mesh, mesh_texts}
 use Rattle.ipc_top.proofs.Taking.{looked_as, looked_nothing, looked_refused}
 use Rattle.ipc_top.proofs.mesh.bodies_of_bytes.Goals as goal
 
 pub returns-in-Ok-clause-looks : goal.returns-in-Ok-clause-looks
 returns-in-Ok-clause-looks g c = λ s.
-    looked_as (λ o. o ≡ setup_outcome (setup_of c.in-Ok.mesh c.args.numbers)) (MeshMeans c.args.numbers c.args.bytes.now) _
-    (λ o is. OfMesh c.in-Ok.mesh (record { first_form = c.in-Ok.ensures.accepted }) is) (c.bodies_of_mesh.ensures.looks s)
+    looked_as (MeshMakes c.args.numbers c.in-Ok.mesh) (MeshMeans c.args.numbers c.args.bytes.now) _
+    (λ o makes. OfMesh c.in-Ok.mesh (record { first_form = c.in-Ok.ensures.accepted }) makes) (c.bodies_of_mesh.ensures.looks s)
 
 pub returns-in-Err-Memory-clause-looks : goal.returns-in-Err-Memory-clause-looks
 returns-in-Err-Memory-clause-looks g c = λ s.
@@ -21,4 +17,4 @@ returns-in-Err-Memory-clause-looks g c = λ s.
 pub returns-clause-looks : goal.returns-clause-looks
 returns-clause-looks g c = λ s.
     let h = rw c.in-Err-Text.field-0-is at c.in-Err-Text.ensures.refused in
-    looked_refused _ _ (MeshMeans c.args.numbers c.args.bytes.now) (plan_of (Say mesh_refused_line ∷ []) 6) _ (NoMesh (λ mesh means. h.1 mesh means.first_form) refl) (c.refuse_mesh.ensures s)
+    looked_refused _ _ (MeshMeans c.args.numbers c.args.bytes.now) mesh_refused_plan _ (NoMesh (λ mesh means. h.1 mesh means.first_form) refl) (c.refuse_mesh.ensures s)

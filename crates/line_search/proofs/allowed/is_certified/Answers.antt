@@ -7,7 +7,7 @@ use Rattle.surface_mesh.proofs.ShortEdges.{first_edge_is_within, second_edge_is_
 use Rattle.volume_cert.specs.Tetrahedra.{AreShortEdges, corners_between, edges_from_first}
 use Rattle.volume_cert.specs.declared.edges.TheConstants.{LONGEST_EDGE}
 use Rattle.line_search.specs.Calls.Corners.{corners_at}
-use Rattle.line_search.specs.Upright.{HasShortEdges}
+use Rattle.potential_sum.specs.Upright.{HasShortEdges}
 use Rattle.line_search.proofs.allowed.is_certified.Goals as goal
 
 short : (places : List V3) (nodes : List ℕ) → HasShortEdges places nodes → AreShortEdges (edges_from_first (corners_at places nodes))

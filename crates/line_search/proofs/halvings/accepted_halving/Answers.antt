@@ -13,9 +13,10 @@ returns-clause-accepted c = (
   λ t.
       let moving = c.moves.ensures.0 c.if-not-moves.false in
       let moved = rw c.in-Some.is at c.in_ok-y.ensures in
+      let allowed = rw c.in-Some-2.is at c.in_ok-lower.ensures.allowed in
       record {
         moves = (moving.0, moving.1, moving.2, moving.3, moving.4.moves);
-        allowed = subst (IsAllowed c.args.setup.now c.args.terms.now c.args.x.now) moved.places (c.in-Some-lower_if_allowed.ensures.allowed.0 refl);
+        allowed = subst (IsAllowed c.args.setup.now c.args.terms.now.frame c.args.x.now) moved.places (allowed.0 refl);
       },
   λ a. refl,
 )

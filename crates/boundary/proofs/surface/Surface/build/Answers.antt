@@ -1,8 +1,9 @@
-use Rattle.std.proofs.Common.{◌∙◌, ◌*◌, ◌≤◌, ap, subst, length, map, arith}
+use Rattle.std.proofs.Common.{◌∙◌, ◌*◌, ◌≤◌, ap, subst, sym, length, map, arith}
 use Rattle.std.specs.Prelude.{find, filter}
 use Rattle.std.specs.Option.{option_map}
 use Rattle.boundary.specs.Calls.Groups.{are_two_alike, first_corners, first_tets, groups_of, has_one, has_three}
-use Rattle.boundary.specs.Surface.{AreEdges, AreVertices}
+use Rattle.space3.specs.Mesh.{HasNodes}
+use Rattle.boundary.specs.Surface.{AreEdges, AreVertices, IsSurface, SurfaceLists}
 use Rattle.boundary.proofs.OwnersInGroups.{conforming, groups_of_mesh, least_thrice, least_same, none_thrice, singles}
 use Rattle.boundary.proofs.SurfaceFacts.{surface_lists, surface_placed}
 use Rattle.boundary.proofs.surface.Surface.build.Goals as goal
@@ -43,8 +44,8 @@ returns-then-len-clause-refused c =
       many = omega (arith, c.if-len.true, c.len.ensures, c.len-then-len.ensures);
     }
 
-pub invariant_of-result : goal.invariant_of-result
-invariant_of-result c =
+pub of_lists-requires : goal.of_lists-requires
+of_lists-requires c =
     let mesh = c.args.mesh.now in
     let faces = c.in_ok-faces.faces.items in
     let triangles = c.in_ok-triangles.triangles.items in
@@ -63,13 +64,14 @@ pub returns-clause-surface : goal.returns-clause-surface
 returns-clause-surface c =
     let mesh = c.args.mesh.now in
     let faces = c.in_ok-faces.faces.items in
-    record {
+    subst (IsSurface mesh) (sym c.of_lists.ensures.value)
+    (record {
       triangles = singles mesh (groups_of faces) c.in_ok-triangles.triangles.items
           (groups_of_mesh mesh faces c.in_ok-faces.ensures.sorted c.in_ok-faces.ensures.same)
           (c.in_ok-triangles.ensures ∙ ap (λ l. map first_corners (filter has_one (groups_of l))) c.deref-3.ensures.value);
       edges = subst (λ l. AreEdges l c.in_ok-edges.edges.items) c.deref-4.ensures.value c.in_ok-edges.ensures.edges;
       vertices = subst (λ l. AreVertices l c.in_ok-vertices.vertices.items) c.deref-5.ensures.value c.in_ok-vertices.ensures.vertices;
-    }
+    })
 
 pub returns-clause-conforming : goal.returns-clause-conforming
 returns-clause-conforming c =
@@ -85,7 +87,8 @@ pub returns-clause-placed : goal.returns-clause-placed
 returns-clause-placed c =
     let mesh = c.args.mesh.now in
     let faces = c.in_ok-faces.faces.items in
-    surface_placed mesh (groups_of faces) c.in_ok-triangles.triangles.items c.in_ok-vertices.vertices.items c.requires
+    subst (λ (s : SurfaceLists). HasNodes mesh.places s.vertices) (sym c.of_lists.ensures.value)
+    (surface_placed mesh (groups_of faces) c.in_ok-triangles.triangles.items c.in_ok-vertices.vertices.items c.requires
     (groups_of_mesh mesh faces c.in_ok-faces.ensures.sorted c.in_ok-faces.ensures.same)
     (c.in_ok-triangles.ensures ∙ ap (λ l. map first_corners (filter has_one (groups_of l))) c.deref-3.ensures.value)
-    (subst (λ l. AreVertices l c.in_ok-vertices.vertices.items) c.deref-5.ensures.value c.in_ok-vertices.ensures.vertices)
+    (subst (λ l. AreVertices l c.in_ok-vertices.vertices.items) c.deref-5.ensures.value c.in_ok-vertices.ensures.vertices))

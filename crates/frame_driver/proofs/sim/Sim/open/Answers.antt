@@ -6,7 +6,7 @@ use Rattle.space3.specs.declared.vectors.V3.{V3}
 use Rattle.space3.specs.Vectors.{Within, difference}
 use Rattle.surface_mesh.specs.declared.ranges.TheConstants.{FASTEST}
 use Rattle.surface_mesh.proofs.SetupFacts.{velocity_length, velocities_are_within}
-use Rattle.line_search.specs.Upright.{IsPose}
+use Rattle.line_search.specs.Poses.{IsPose}
 use Rattle.frame_driver.specs.Paths.{first_before}
 use Rattle.frame_driver.proofs.Starts.{first_pose, length-first_before}
 use Rattle.frame_driver.proofs.sim.Sim.open.Goals as goal
@@ -25,8 +25,8 @@ before-is c = c.in_ok-before.ensures.value ∙ ap (λ (vs : List V3). map (λ (n
 pub invariant_of-result : goal.invariant_of-result
 invariant_of-result c = record {
   built = c.requires.built;
-  sturdy = c.requires.sturdy;
-  pose = subst (IsPose c.args.setup) (sym c.in_ok-places.ensures) (first_pose c.args.setup c.requires.built c.requires.sturdy);
+  sturdy = c.requires.fit.sturdy;
+  pose = subst (IsPose c.args.setup) (sym c.in_ok-places.ensures) (first_pose c.args.setup c.requires.built c.requires.fit);
   each_before = ap (λ (vs : List V3). length vs) (before-is c) ∙ length-first_before c.args.setup c.requires.built;
   near = c.in_ok-before.ensures.near;
 }

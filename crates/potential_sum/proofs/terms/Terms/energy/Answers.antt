@@ -1,47 +1,34 @@
-use Rattle.std.proofs.Common.{◌≡◌, ◌∙◌, ℕ, ◌+◌, ◌*◌, ◌^◌, ◌≤◌, ◌<◌, ℤ, ◌+ℤ◌, map, sym, arith, unsigned_abs, to_z, of_z, FitsSigned}
-use Rattle.std.specs.Int.{w128}
+use Rattle.std.proofs.Common.{◌≡◌, ◌∙◌, List, map, length, ap, subst, sym}
+use Rattle.std.specs.Prelude.{All}
 use Rattle.std.specs.List.{range_with_len}
-use Rattle.std.proofs.lemmas.Int.{to_z-of_z, fits_signed_from_abs}
-use Rattle.whole_laws.proofs.Order.{size_sum}
-use Rattle.space3.specs.Vectors.{AtMost}
 use Rattle.list_laws.specs.Sums.{total}
-use Rattle.potential_sum.specs.Potential.{inertia_at}
-use Rattle.potential_sum.proofs.Gradients.{inertia_is_small}
-use Rattle.surface_mesh.proofs.SetupFacts.{mass_length}
-use Rattle.list_laws.proofs.Sums.{total_more}
+use Rattle.potential_sum.specs.declared.bodies.Body.{Body}
+use Rattle.potential_sum.specs.Bodies.{elastic_tets}
+use Rattle.potential_sum.specs.Calls.Inertia.{energy_at}
+use Rattle.potential_sum.specs.Calls.Kept.{MayStand, elastic_in}
+use Rattle.potential_sum.specs.Contributions.{elastic_contribution}
+use Rattle.potential_sum.specs.Terms.{KeptTerms}
+use Rattle.potential_sum.proofs.Energies.{potential-kept}
+use Rattle.potential_sum.proofs.KeptTerms.{both, movers}
+use Rattle.potential_sum.proofs.Standing.{bodies_may_stand}
 use Rattle.potential_sum.proofs.terms.Terms.energy.Goals as goal
 
--- a sum over i numbers of at most 2^90 each, and one such number more
-record IsAdded (f : ℕ → ℤ) (i : ℕ) (a r : ℤ) : Type 0 where
-  fits : FitsSigned w128 (a +ℤ r)
-  sum : to_z w128 (of_z w128 (a +ℤ r)) ≡ total (map f (range_with_len 0 (i + 1)))
-  bound : unsigned_abs (to_z w128 (of_z w128 (a +ℤ r))) ≤ (i + 1) * 2 ^ 90
+pub inertia_energy_of-inertia-requires-clause-nodes : goal.inertia_energy_of-inertia-requires-clause-nodes
+inertia_energy_of-inertia-requires-clause-nodes c =
+    movers c.args.setup.now c.args.self.now c.args.x.now c.items.result.now c.as_slice.result.now c.requires.built c.requires.sturdy c.requires.stand c.requires.pose
+    c.items.ensures (c.as_slice.ensures.value ∙ ap (λ (t : KeptTerms). t.frame.targets) c.self.view_is)
 
-added : (f : ℕ → ℤ) (i : ℕ) (a r : ℤ) → a ≡ total (map f (range_with_len 0 i)) → unsigned_abs a ≤ i * 2 ^ 90 → r ≡ f i → AtMost (2 ^ 90) (f i) → i < 16384 → IsAdded f i a r
-added f i a r h k e l few =
-    let one : unsigned_abs r ≤ 2 ^ 90 = rw e l.bound in
-    let all : unsigned_abs (a +ℤ r) ≤ (i + 1) * 2 ^ 90 = omega (arith, size_sum a r) in
-    let fits : FitsSigned w128 (a +ℤ r) = fits_signed_from_abs w128 (a +ℤ r) (omega arith) in
-    record {
-      fits = fits;
-      sum = to_z-of_z w128 (a +ℤ r) fits ∙ (λ j. h j +ℤ e j) ∙ sym (total_more f i);
-      bound = rw (to_z-of_z w128 (a +ℤ r) fits) all;
-    }
+pub elastic_energy-elastic-requires-clause-stand : goal.elastic_energy-elastic-requires-clause-stand
+elastic_energy-elastic-requires-clause-stand c =
+    subst (All (λ body. MayStand c.args.x.now (elastic_in body))) (sym c.as_slice-2.ensures.value)
+    (bodies_may_stand c.args.setup.now c.args.x.now c.self.inside.bodies.items c.requires.built c.requires.pose (ap (λ (t : KeptTerms). t.elastic) c.self.view_is ∙ c.requires.stand.elastic))
 
-pub inertia_at-sum-requires-clause-mass : goal.inertia_at-sum-requires-clause-mass
-inertia_at-sum-requires-clause-mass c = omega (arith, mass_length c.args.setup.now c.requires.built)
-
-pub overflow_add-sum : goal.overflow_add-sum
-overflow_add-sum c =
-    let f : ℕ → ℤ = inertia_at c.args.setup.now c.args.self.now c.args.x.now in
-    (added f c.loop-node.node (to_z w128 c.loop-node.sum-bits) (to_z w128 (of_z w128 c.inertia_at-sum.result)) c.loop-node.invariant.sum c.loop-node.invariant.bound
-    (to_z-of_z w128 c.inertia_at-sum.result (record { sfits = c.inertia_at-sum.type_inv }) ∙ c.inertia_at-sum.ensures)
-    (inertia_is_small c.args.setup.now c.args.self.now c.args.x.now c.loop-node.node) (omega (arith, c.requires.built.mesh_is_sound.few_nodes))).fits
-
-pub loop-node-preserved : goal.loop-node-preserved
-loop-node-preserved c =
-    let f : ℕ → ℤ = inertia_at c.args.setup.now c.args.self.now c.args.x.now in
-    let step = added f c.loop-node.node (to_z w128 c.loop-node.sum-bits) (to_z w128 (of_z w128 c.inertia_at-sum.result)) c.loop-node.invariant.sum c.loop-node.invariant.bound
-    (to_z-of_z w128 c.inertia_at-sum.result (record { sfits = c.inertia_at-sum.type_inv }) ∙ c.inertia_at-sum.ensures)
-    (inertia_is_small c.args.setup.now c.args.self.now c.args.x.now c.loop-node.node) (omega (arith, c.requires.built.mesh_is_sound.few_nodes)) in
-    record { sum = step.sum; bound = step.bound }
+pub returns : goal.returns
+returns c =
+    let targets = c.as_slice.ensures.value ∙ ap (λ (t : KeptTerms). t.frame.targets) c.self.view_is in
+    let kept : map elastic_in c.self.inside.bodies.items ≡ elastic_tets c.args.setup.now = ap (λ (t : KeptTerms). t.elastic) c.self.view_is ∙ c.requires.stand.elastic in
+    both _ _ _ _
+    (c.inertia_energy_of-inertia.ensures.value ∙ (λ i. total (map (energy_at (c.items.ensures i) (targets i) c.args.x.now) (range_with_len 0 (length c.args.x.now)))))
+    (c.elastic_energy-elastic.ensures.value ∙ ap (λ (bodies : List Body). total (map (λ body. (elastic_contribution c.args.x.now (elastic_in body)).energy) bodies)) c.as_slice-2.ensures.value)
+    c.inertia_energy_of-inertia.ensures.small c.elastic_energy-elastic.ensures.small
+    ∙ potential-kept c.args.setup.now c.args.self.now.frame c.args.x.now c.self.inside.bodies.items c.requires.pose.each kept

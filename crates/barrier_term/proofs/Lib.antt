@@ -1,0 +1,5 @@
+pub mod Activity
+pub mod Examples
+pub mod Falling
+pub mod Pulls
+pub mod Steepness

@@ -1,0 +1,4 @@
+pub mod Barrier
+pub mod Blocks
+pub mod Examples
+pub mod Gradients

@@ -1,0 +1,15 @@
+//! The barrier between two parts of a surface that are close: its energy, slope, gradient and part of the matrix, as
+//! exact whole numbers. It is that of Li and others, "Incremental Potential Contact", 2020, in the squared distance.
+#![tactic(auto)]
+
+mod active;
+mod block;
+mod energy;
+mod gradient;
+mod laws;
+
+pub use active::MOST_STIFFNESS;
+pub use block::barrier_block;
+pub use energy::{barrier_energy, barrier_slope};
+pub use gradient::barrier_gradient;
+pub use laws::{energy_falls_with_the_distance, example_over_a_triangle};

@@ -1,0 +1,5 @@
+pub mod Examples
+pub mod Motions
+pub mod Pulls
+pub mod SmoothLengths
+pub mod Standing

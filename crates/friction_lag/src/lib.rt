@@ -1,0 +1,17 @@
+//! Friction of a contact, lagged by a frame: the force, the normal and the weights are those of the frame's beginning.
+//! It is that of Li and others, "Incremental Potential Contact", 2020, as exact whole numbers.
+#![tactic(auto)]
+
+mod contacts;
+mod friction;
+mod lagged;
+mod laws;
+mod normal;
+mod slide;
+mod smooth;
+
+pub use contacts::Contact;
+pub use friction::{MOST_FRICTION, friction_block, friction_energy, friction_gradient};
+pub use lagged::contact;
+pub use laws::example_of_a_sliding_point;
+pub use smooth::MOST_SLIP;

@@ -1,0 +1,12 @@
+pub mod FaultsRead
+pub mod FrameLines
+pub mod FrameMeans
+pub mod Gets
+pub mod Growth
+pub mod Loop
+pub mod Meaning
+pub mod MeantIsRead
+pub mod Numbers
+pub mod ReadIsMeant
+pub mod SharedLines
+pub mod SoundSoFar

@@ -1,0 +1,3 @@
+-- Words of the crate's own calls.
+pub mod Growth
+pub mod Reading

@@ -1,0 +1,4 @@
+pub mod FieldValues
+pub mod IndexLemmas
+pub mod Positions
+pub mod SectionWords

@@ -1,0 +1,3 @@
+pub mod ElementRows
+pub mod RowMeanings
+pub mod TagLoop

@@ -1,0 +1,11 @@
+pub mod Candidates
+pub mod Cancelling
+pub mod Close
+pub mod Distances
+pub mod Examples
+pub mod Feet
+pub mod Hulls
+pub mod PointAndTriangle
+pub mod RoundedWeights
+pub mod SignedWeights
+pub mod TwoEdges

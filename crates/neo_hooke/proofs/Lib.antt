@@ -1,0 +1,4 @@
+pub mod AtRest
+pub mod Shifts
+pub mod Symmetry
+pub mod Worked

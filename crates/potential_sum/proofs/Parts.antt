@@ -1,0 +1,156 @@
+-- The pulls of contributions: how many, how great, and at which nodes.
+use Rattle.std.proofs.Common.{◌≡◌, ℕ, ◌^◌, ◌<◌, ◌≤◌, ℤ, pos, ◌+ℤ◌, ◌*ℤ◌, neg_ℤ, List, [], ◌∷◌, length, map, get_or, refl, arith, lit≤}
+use Rattle.std.specs.Prelude.{All, zip}
+use Rattle.std.specs.List.{range_with_len}
+use Rattle.std.proofs.lemmas.List.{length-map}
+use Rattle.std.proofs.lemmas.List.Elements.{All-nil, All-cons, All-head, All-tail, All-map}
+use Rattle.std.proofs.lemmas.Slice.Zip.{length-zip}
+use Rattle.list_laws.proofs.CountedWrites.{All-counted}
+use Rattle.num_q.specs.Rounding.{cut_of, floor_of}
+use Rattle.space3.specs.declared.vectors.V3.{V3}
+use Rattle.space3.specs.Vectors.{Within}
+use Rattle.space3.specs.Mesh.{place_of}
+use Rattle.space3.proofs.Bounds.{within_more}
+use Rattle.vec_q.specs.Matrices.{M3, cofactors, determinant_of}
+use Rattle.inertia_term.specs.Inertia.{inertia_block, inertia_gradient, offset_of}
+use Rattle.neo_hooke.specs.Block.{block_at, elastic_block, log_slopes, stretch_entry, volume_entry}
+use Rattle.neo_hooke.specs.Gradient.{balance_of, elastic_gradient, elastic_pulls, pressure, pulls_of as node_pulls}
+use Rattle.neo_hooke.specs.Rest.{RestShape, edge_matrix}
+use Rattle.neo_hooke.specs.Strain.{log_volume, strain_gradient}
+use Rattle.potential_sum.specs.declared.pulls.Quantity.{Quantity}
+use Rattle.potential_sum.specs.declared.pulls.Quantity.TheVariants as quantities
+use Rattle.potential_sum.specs.Bodies.{ElasticTet, corners_at}
+use Rattle.potential_sum.specs.Calls.Inertia.{part_at, pull_of}
+use Rattle.potential_sum.specs.Calls.Kept.{MayStand}
+use Rattle.potential_sum.specs.Calls.Sums.{as_pull, vectors_of}
+use Rattle.potential_sum.specs.Contributions.{diagonal_of, elastic_contribution}
+use Rattle.potential_sum.proofs.Energies.{cut-small}
+use Rattle.potential_sum.proofs.Lightness.{IsSmall, IsWeak}
+use Rattle.potential_sum.proofs.PullSums.{IsInside}
+
+-- ---- lists of pairs
+All-zip_left : {X Y : Type 0} (P : X → Type 0) (xs : List X) (ys : List Y) → All P xs → All (λ pair. P pair.0) (zip xs ys)
+All-zip_left P [] ys h = All-nil (λ pair. P pair.0)
+All-zip_left P (x ∷ xs) [] h = All-nil (λ pair. P pair.0)
+All-zip_left P (x ∷ xs) (y ∷ ys) h = All-cons (λ pair. P pair.0) (x, y) (zip xs ys) (All-head P x xs h) (All-zip_left P xs ys (All-tail P x xs h))
+
+pub All-zip_right : {X Y : Type 0} (P : Y → Type 0) (xs : List X) (ys : List Y) → All P ys → All (λ pair. P pair.1) (zip xs ys)
+All-zip_right P [] ys h = All-nil (λ pair. P pair.1)
+All-zip_right P (x ∷ xs) [] h = All-nil (λ pair. P pair.1)
+All-zip_right P (x ∷ xs) (y ∷ ys) h = All-cons (λ pair. P pair.1) (x, y) (zip xs ys) (All-head P y ys h) (All-zip_right P xs ys (All-tail P y ys h))
+
+-- ---- inertia
+cut_vector : (x y z : ℤ) → Within (2 ^ 90) (record { x = cut_of 90 x; y = cut_of 90 y; z = cut_of 90 z })
+cut_vector x y z = record { x = cut-small 90 x; y = cut-small 90 y; z = cut-small 90 z }
+
+inertia-weak : (mass : ℤ) (place target : V3) → Within (2 ^ 90) (inertia_gradient mass place target)
+inertia-weak mass place target =
+    let offset = offset_of place target in
+    cut_vector (floor_of (mass *ℤ offset.x) (pos 128)) (floor_of (mass *ℤ offset.y) (pos 128)) (floor_of (mass *ℤ offset.z) (pos 128))
+
+pub inertia-pulls-weak : (masses : List ℤ) (targets places : List V3) (node : ℕ) → All (Within (2 ^ 90)) (pull_of masses targets places node ∷ [])
+inertia-pulls-weak masses targets places node =
+    All-cons (Within (2 ^ 90)) (pull_of masses targets places node) [] (inertia-weak (get_or masses node (pos 0)) (place_of places node) (place_of targets node)) (All-nil (Within (2 ^ 90)))
+
+-- what is cut to 86 bits
+cut_diagonal : (x y z : ℤ) → Within (2 ^ 90) (record { x = cut_of 86 x; y = cut_of 86 y; z = cut_of 86 z })
+cut_diagonal x y z = within_more (2 ^ 86) (2 ^ 90) _ (record { x = cut-small 86 x; y = cut-small 86 y; z = cut-small 86 z }) (lit≤ tt)
+
+inertia-stiff : (mass : ℤ) → Within (2 ^ 90) (diagonal_of (inertia_block mass))
+inertia-stiff mass = cut_diagonal (pos 2 *ℤ mass) (pos 2 *ℤ mass) (pos 2 *ℤ mass)
+
+one_small : (q : Quantity) (node : ℕ) (v : V3) → Within (2 ^ 90) v → All IsWeak (as_pull (node, v) ∷ [])
+one_small q node v h = All-cons IsWeak (as_pull (node, v)) [] h (All-nil IsWeak)
+
+pub inertia-part-small : (q : Quantity) (masses : List ℤ) (targets places : List V3) (node : ℕ) → IsSmall q (part_at masses targets places node)
+inertia-part-small quantities.Pull masses targets places node = record {
+  few = lit≤ tt;
+  weak = one_small quantities.Pull node (pull_of masses targets places node) (inertia-weak (get_or masses node (pos 0)) (place_of places node) (place_of targets node));
+}
+inertia-part-small quantities.Stiffness masses targets places node = record {
+  few = lit≤ tt;
+  weak = one_small quantities.Stiffness node (diagonal_of (inertia_block (get_or masses node (pos 0)))) (inertia-stiff (get_or masses node (pos 0)));
+}
+
+one_inside : (count node : ℕ) (v : V3) → node < count → All (λ (pull : ℕ × V3). pull.0 < count) ((node, v) ∷ [])
+one_inside count node v h = All-cons (λ (pull : ℕ × V3). pull.0 < count) (node, v) [] h (All-nil (λ (pull : ℕ × V3). pull.0 < count))
+
+pub inertia-part-inside : (q : Quantity) (masses : List ℤ) (targets places : List V3) (count node : ℕ) → node < count → IsInside q count (part_at masses targets places node)
+inertia-part-inside quantities.Pull masses targets places count node h = one_inside count node (pull_of masses targets places node) h
+inertia-part-inside quantities.Stiffness masses targets places count node h = one_inside count node (diagonal_of (inertia_block (get_or masses node (pos 0)))) h
+
+pub inertia-parts-small : (q : Quantity) (masses : List ℤ) (targets places : List V3) (n : ℕ) → All (IsSmall q) (map (part_at masses targets places) (range_with_len 0 n))
+inertia-parts-small q masses targets places n = All-map (IsSmall q) (part_at masses targets places) (range_with_len 0 n) (λ k d l. inertia-part-small q masses targets places _)
+
+pub inertia-parts-inside : (q : Quantity) (masses : List ℤ) (targets places : List V3) (n : ℕ) → All (IsInside q n) (map (part_at masses targets places) (range_with_len 0 n))
+inertia-parts-inside q masses targets places n = All-map (IsInside q n) (part_at masses targets places) (range_with_len 0 n) (All-counted (λ node. IsInside q n (part_at masses targets places node)) n (λ node h. inertia-part-inside q masses targets places n node h))
+
+-- ---- elasticity
+column-weak : (mu r outward : ℤ) (strain cofactor : V3) → Within (2 ^ 90) (elastic_pulls mu r outward strain cofactor)
+column-weak mu r outward strain cofactor = cut_vector
+    (floor_of (pos 8 *ℤ mu *ℤ strain.x) r +ℤ floor_of (outward *ℤ cofactor.x) (pos (2 ^ 21)))
+    (floor_of (pos 8 *ℤ mu *ℤ strain.y) r +ℤ floor_of (outward *ℤ cofactor.y) (pos (2 ^ 21)))
+    (floor_of (pos 8 *ℤ mu *ℤ strain.z) r +ℤ floor_of (outward *ℤ cofactor.z) (pos (2 ^ 21)))
+
+balance-weak : (m : M3) → Within (2 ^ 90) (balance_of m)
+balance-weak m = cut_vector
+    (neg_ℤ (m.first.x +ℤ m.second.x +ℤ m.third.x))
+    (neg_ℤ (m.first.y +ℤ m.second.y +ℤ m.third.y))
+    (neg_ℤ (m.first.z +ℤ m.second.z +ℤ m.third.z))
+
+-- each of the three columns
+record AreWeak (m : M3) : Type 0 where
+  first : Within (2 ^ 90) m.first
+  second : Within (2 ^ 90) m.second
+  third : Within (2 ^ 90) m.third
+
+columns-weak : (rest : RestShape) (mu lambda : ℤ) (edges : M3) → AreWeak (node_pulls rest mu lambda edges)
+unfolding node_pulls
+columns-weak rest mu lambda edges =
+    let strain = strain_gradient rest edges in
+    let across = cofactors edges in
+    let outward = pressure mu lambda rest.r (log_volume rest edges) (determinant_of edges) in
+    record {
+      first = column-weak mu rest.r outward strain.first across.first;
+      second = column-weak mu rest.r outward strain.second across.second;
+      third = column-weak mu rest.r outward strain.third across.third;
+    }
+
+gradient-weak : (rest : RestShape) (mu lambda : ℤ) (x : List V3) → All (Within (2 ^ 90)) (elastic_gradient rest mu lambda x)
+gradient-weak rest mu lambda x =
+    let pulls = node_pulls rest mu lambda (edge_matrix x) in
+    let weak = columns-weak rest mu lambda (edge_matrix x) in
+    let P : V3 → Type 0 = Within (2 ^ 90) in
+    All-cons P (balance_of pulls) (pulls.first ∷ pulls.second ∷ pulls.third ∷ []) (balance-weak pulls)
+    (All-cons P pulls.first (pulls.second ∷ pulls.third ∷ []) weak.first
+    (All-cons P pulls.second (pulls.third ∷ []) weak.second
+    (All-cons P pulls.third [] weak.third (All-nil P))))
+
+pub elastic-pulls-weak : (x : List V3) (tet : ElasticTet) → All (Within (2 ^ 90)) (elastic_contribution x tet).pulls
+elastic-pulls-weak x tet = gradient-weak tet.rest tet.mu tet.lambda (corners_at x tet.nodes)
+
+-- the diagonal of a block of a node with itself
+block-stiff : (rest : RestShape) (mu lambda : ℤ) (x : List V3) (i : ℕ) → Within (2 ^ 90) (diagonal_of (elastic_block rest mu lambda x i i))
+unfolding block_at
+block-stiff rest mu lambda x i =
+    let edges = edge_matrix x in
+    let h = log_slopes edges i in
+    let stretch = stretch_entry rest mu i i in
+    let stiffness = rest.r *ℤ (mu +ℤ lambda) in
+    cut_diagonal (stretch +ℤ volume_entry stiffness h.x h.x) (stretch +ℤ volume_entry stiffness h.y h.y) (stretch +ℤ volume_entry stiffness h.z h.z)
+
+pub elastic-diagonals-weak : (x : List V3) (tet : ElasticTet) → All (Within (2 ^ 90)) (elastic_contribution x tet).diagonals
+elastic-diagonals-weak x tet = All-map (Within (2 ^ 90)) (λ (i : ℕ). diagonal_of (elastic_block tet.rest tet.mu tet.lambda (corners_at x tet.nodes) i i)) (0 ∷ 1 ∷ 2 ∷ 3 ∷ []) (λ k d l. block-stiff tet.rest tet.mu tet.lambda (corners_at x tet.nodes) _)
+
+-- at most four vectors, none of them strong
+four_small : (nodes : List ℕ) (vectors : List V3) → length vectors ≡ 4 → All (Within (2 ^ 90)) vectors → length (map as_pull (zip nodes vectors)) ≤ 4 × All IsWeak (map as_pull (zip nodes vectors))
+four_small nodes vectors e h = (omega (arith, length-map (zip nodes vectors) as_pull, length-zip nodes vectors), All-map IsWeak as_pull (zip nodes vectors) (All-zip_right (Within (2 ^ 90)) nodes vectors h))
+
+pub elastic-part-small : (q : Quantity) (x : List V3) (tet : ElasticTet) → IsSmall q (elastic_contribution x tet)
+elastic-part-small quantities.Pull x tet =
+    let small = four_small tet.nodes (elastic_contribution x tet).pulls refl (elastic-pulls-weak x tet) in record { few = small.0; weak = small.1 }
+elastic-part-small quantities.Stiffness x tet =
+    let small = four_small tet.nodes (elastic_contribution x tet).diagonals refl (elastic-diagonals-weak x tet) in record { few = small.0; weak = small.1 }
+
+pub elastic-part-inside : (q : Quantity) (x : List V3) (tet : ElasticTet) → MayStand x tet → IsInside q (length x) (elastic_contribution x tet)
+elastic-part-inside q x tet h = All-zip_left (λ node. node < length x) tet.nodes (vectors_of q (elastic_contribution x tet)) h.there

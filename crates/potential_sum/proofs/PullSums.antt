@@ -1,0 +1,116 @@
+-- Pulls that are added at their nodes, one after another, give the sum of all at each node.
+use Rattle.std.proofs.Common.{◌≡◌, ◌∙◌, ℕ, ◌<◌, ℤ, pos, ◌+ℤ◌, Bool, true, false, List, [], ◌∷◌, ◌++◌, map, set, get_or, length, take, drop, replicate, refl, ap, sym, subst, arith, append_assoc}
+use Rattle.std.specs.Prelude.{◌==◌, All, zip, if◌then◌else◌}
+use Rattle.std.specs.List.{range_with_len}
+use Rattle.std.proofs.lemmas.Bool.{eq-eqb, ne_eqb}
+use Rattle.std.proofs.lemmas.Int.{ints}
+use Rattle.std.proofs.lemmas.List.Elements.{All-head, All-tail}
+use Rattle.std.proofs.lemmas.List.FromFn.{length-map-range_with_len}
+use Rattle.std.proofs.Math.Seq.{take-append_seam}
+use Rattle.list_laws.proofs.CountedWrites.{get_or-counted, replicate-counted, set-counted}
+use Rattle.space3.specs.declared.vectors.V3.{V3}
+use Rattle.space3.specs.declared.vectors.W3.{W3}
+use Rattle.space3.specs.Vectors.{origin, vector, sum_of}
+use Rattle.potential_sum.specs.declared.pulls.Quantity.{Quantity}
+use Rattle.potential_sum.specs.Contributions.{Contribution, vector_total}
+use Rattle.potential_sum.specs.Calls.Sums.{as_pull, node_sums, nothing, pulls_of, vector_at, vectors_of, wide, wide_sum, with_parts, with_pulls}
+
+-- ---- sums of vectors
+sum_of-origin : (a : V3) → sum_of a origin ≡ a
+sum_of-origin a = λ i. vector (each a.x i) (each a.y i) (each a.z i)
+  where
+    each : (a : ℤ) → a +ℤ pos 0 ≡ a
+    each a = omega (arith, ints)
+
+origin-sum_of : (a : V3) → sum_of origin a ≡ a
+origin-sum_of a = λ i. vector (each a.x i) (each a.y i) (each a.z i)
+  where
+    each : (a : ℤ) → pos 0 +ℤ a ≡ a
+    each a = omega (arith, ints)
+
+sum_of-assoc : (a b c : V3) → sum_of (sum_of a b) c ≡ sum_of a (sum_of b c)
+sum_of-assoc a b c = λ i. vector (each a.x b.x c.x i) (each a.y b.y c.y i) (each a.z b.z c.z i)
+  where
+    each : (a b c : ℤ) → (a +ℤ b) +ℤ c ≡ a +ℤ (b +ℤ c)
+    each a b c = omega (arith, ints)
+
+vector_total-push : (vs : List V3) (v : V3) → vector_total (vs ++ v ∷ []) ≡ sum_of (vector_total vs) v
+vector_total-push [] v = sum_of-origin v ∙ sym (origin-sum_of v)
+vector_total-push (w ∷ ws) v = ap (sum_of w) (vector_total-push ws v) ∙ sym (sum_of-assoc w (vector_total ws) v)
+
+map-push : {X Y : Type 0} (f : X → Y) (xs : List X) (x : X) → map f (xs ++ x ∷ []) ≡ map f xs ++ f x ∷ []
+map-push f [] x = refl
+map-push {Y = Y} f (y ∷ ys) x = ap (λ (zs : List Y). f y ∷ zs) (map-push f ys x)
+
+-- ---- pulls
+-- a pull at a node, as it counts there and elsewhere
+abbrev counted : ℕ → ℕ × V3 → V3
+counted k pull = if pull.0 == k then pull.1 else origin
+
+chosen : (b : Bool) (v : V3) → b ≡ true → (if b then v else origin) ≡ v
+chosen true v e = refl
+chosen false v e = cc
+
+passed : (b : Bool) (v : V3) → b ≡ false → (if b then v else origin) ≡ origin
+passed true v e = cc
+passed false v e = refl
+
+abbrev sums_at : (ℕ → V3) → ℕ → List W3
+sums_at f count = map (λ k. wide (f k)) (range_with_len 0 count)
+
+scattered : (f : ℕ → V3) (count : ℕ) (pulls : List (ℕ × V3)) → All (λ pull. pull.0 < count) pulls →
+    with_pulls (sums_at f count) (map as_pull pulls) ≡ sums_at (λ k. sum_of (f k) (vector_total (map (counted k) pulls))) count
+scattered f count [] there = λ i. sums_at (λ k. sym (sum_of-origin (f k)) i) count
+scattered f count (p ∷ ps) there =
+    ap (λ (sums : List W3). with_pulls sums (map as_pull ps)) first
+    ∙ scattered next count ps (All-tail (λ pull. pull.0 < count) p ps there)
+    ∙ (λ i. sums_at (λ k. sum_of-assoc (f k) (counted k p) (vector_total (map (counted k) ps)) i) count)
+  where
+    next : ℕ → V3
+    next k = sum_of (f k) (counted k p)
+
+    here : p.0 < count
+    here = All-head (λ pull. pull.0 < count) p ps there
+
+    first : set (sums_at f count) p.0 (wide_sum (get_or (sums_at f count) p.0 nothing) (wide p.1)) ≡ sums_at next count
+    first =
+        set-counted (λ k. wide (f k)) (λ k. wide (next k)) count p.0 _ here
+        (ap (λ (sum : W3). wide_sum sum (wide p.1)) (get_or-counted (λ k. wide (f k)) count p.0 nothing here) ∙ ap (λ (v : V3). wide (sum_of (f p.0) v)) (sym (chosen (p.0 == p.0) p.1 (eq-eqb p.0 p.0 refl))))
+        (λ k h. ap wide (sym (ap (sum_of (f k)) (passed (p.0 == k) p.1 (ne_eqb p.0 k h)) ∙ sum_of-origin (f k))))
+
+-- ---- contributions
+-- each node of a contribution is below so many
+abbrev pub IsInside : Quantity → ℕ → Contribution → Type 0
+IsInside q count part = All (λ pull. pull.0 < count) (zip part.nodes (vectors_of q part))
+
+one_more : (q : Quantity) (count : ℕ) (done : List Contribution) (part : Contribution) → IsInside q count part → with_pulls (node_sums q count done) (pulls_of q part) ≡ node_sums q count (done ++ part ∷ [])
+one_more q count done part inside =
+    scattered (λ k. vector_total (map (vector_at q k) done)) count (zip part.nodes (vectors_of q part)) inside
+    ∙ (λ i. sums_at (λ k. sym (ap vector_total (map-push (vector_at q k) done part) ∙ vector_total-push (map (vector_at q k) done) (vector_at q k part)) i) count)
+
+pub with_parts-sums : (q : Quantity) (count : ℕ) (done parts : List Contribution) → All (IsInside q count) parts → with_parts q (node_sums q count done) parts ≡ node_sums q count (done ++ parts)
+with_parts-sums q count done [] inside = ap (node_sums q count) (sym (append-nil done))
+  where
+    append-nil : (xs : List Contribution) → xs ++ [] ≡ xs
+    append-nil [] = refl
+    append-nil (x ∷ xs) = ap (λ (ys : List Contribution). x ∷ ys) (append-nil xs)
+with_parts-sums q count done (part ∷ parts) inside =
+    ap (λ (sums : List W3). with_parts q sums parts) (one_more q count done part (All-head (IsInside q count) part parts inside))
+    ∙ with_parts-sums q count (done ++ part ∷ []) parts (All-tail (IsInside q count) part parts inside)
+    ∙ ap (node_sums q count) (append_assoc done (part ∷ []) parts)
+
+-- the pulls of one contribution more
+pub with_parts-push : (q : Quantity) (sums : List W3) (parts : List Contribution) (part : Contribution) → with_parts q sums (parts ++ part ∷ []) ≡ with_pulls (with_parts q sums parts) (pulls_of q part)
+with_parts-push q sums [] part = refl
+with_parts-push q sums (p ∷ ps) part = with_parts-push q (with_pulls sums (pulls_of q p)) ps part
+
+-- no sum yet
+pub node_sums-none : (q : Quantity) (count : ℕ) → replicate count nothing ≡ node_sums q count []
+node_sums-none q count = replicate-counted nothing 0 count
+
+pub length-node_sums : (q : Quantity) (count : ℕ) (parts : List Contribution) → length (node_sums q count parts) ≡ count
+length-node_sums q count parts = length-map-range_with_len (λ node. wide (vector_total (map (vector_at q node) parts))) 0 count
+
+-- a whole list that is written back
+pub written_back : (now old : List W3) (count : ℕ) → length now ≡ count → take count (now ++ drop (length now) old) ≡ now
+written_back now old count e = subst (λ (n : ℕ). take n (now ++ drop (length now) old) ≡ now) e (take-append_seam now (drop (length now) old))

@@ -1,0 +1,4 @@
+-- Words of the private functions.
+pub mod Inertia
+pub mod Kept
+pub mod Sums

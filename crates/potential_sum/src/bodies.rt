@@ -1,0 +1,162 @@
+//! The tetrahedra of bodies, made ready for many calls.
+ghost use Rattle.std.specs.Prelude.{◌≡◌, ◌≤◌, ◌<◌, ◌^◌, IfOk, All, map, length};
+ghost use Rattle.list_laws.specs.Sums.{total};
+ghost use Rattle.space3.specs.Mesh.{HasNodes};
+ghost use Rattle.space3.specs.Vectors.{AtMost};
+ghost use Rattle.surface_mesh.specs.Setup.{IsSetup};
+ghost use Rattle.surface_mesh.specs.Sturdy.{IsSturdy};
+ghost use Rattle.surface_mesh.specs.Materials.{IsMaterial, material_of};
+ghost use Rattle.vec_q.specs.Rows.{components};
+ghost use Rattle.neo_hooke.specs.Block.{elastic_block};
+ghost use Rattle.neo_hooke.specs.Rest.{CanRest, CanStand};
+ghost use Rattle.potential_sum.specs.declared.pulls.Quantity.TheVariants as quantities;
+ghost use Rattle.potential_sum.specs.Bodies.{corners_at, elastic_of, elastic_tets};
+ghost use Rattle.potential_sum.specs.Calls.Kept.{MayStand, elastic_in};
+ghost use Rattle.potential_sum.specs.Calls.Sums.{AreLight, pulls_of, with_parts};
+ghost use Rattle.potential_sum.specs.Contributions.{diagonal_of, elastic_contribution};
+
+use crate::pulls::{Pull, Quantity, add_pulls, pull_at};
+use neo_hooke::{Element, rest_tet};
+use space3::{Places, Tet, V3, W3};
+use std::alloc::{AllocError, Global};
+use surface_mesh::Setup;
+
+/// A tetrahedron: its nodes, its shape at rest and its material.
+#[derive(Clone, Copy)]
+pub(crate) struct Body {
+    pub nodes: [u32; 4],
+    pub element: Element,
+}
+
+// The tetrahedra of a setup.
+pub(crate) fn bodies_of(alloc: Global, setup: &Setup) -> Result<Vec<Body>, AllocError>
+    requires built { IsSetup setup.now }
+    requires sturdy { IsSturdy setup.now }
+    ensures { IfOk result (λ made. map elastic_in made.items ≡ elastic_tets setup.now) }
+{
+    let tets = setup.mesh.tets.items();
+    let mut made = Vec::with_capacity(alloc, tets.len())?;
+    for tet in tets {
+        made.push(body_of(setup, tet))?;
+    }
+    Ok(made)
+}
+
+fn body_of(setup: &Setup, tet: &Tet) -> Body
+    requires there { HasNodes setup.now.mesh.places tet.now.nodes }
+    requires rest { CanRest (corners_at setup.now.mesh.places tet.now.nodes) }
+    requires material { IsMaterial (material_of setup.now.numbers tet.now) }
+    ensures { elastic_in result ≡ elastic_of setup.now tet.now }
+{
+    let material = setup.numbers.material_of(tet);
+    let rest = rest_tet(&corners_at(&setup.mesh.places, &tet.nodes));
+    Body {
+        nodes: tet.nodes,
+        element: Element::of(&rest, material.mu, material.lambda),
+    }
+}
+
+// Where the four nodes of a tetrahedron stand.
+fn corners_at(places: &Places, nodes: &[u32; 4]) -> [V3; 4]
+    requires { HasNodes places.now nodes.now }
+    ensures { result ≡ corners_at places.now nodes.now }
+{
+    [
+        places.get(nodes[0]),
+        places.get(nodes[1]),
+        places.get(nodes[2]),
+        places.get(nodes[3]),
+    ]
+}
+
+impl Body {
+    // The elastic energy at these places.
+    fn energy(&self, x: &Places) -> i128
+        requires { MayStand x.now (elastic_in self.now) }
+        ensures { result ≡ (elastic_contribution x.now (elastic_in self.now)).energy }
+    {
+        self.element.energy(&corners_at(x, &self.nodes))
+    }
+
+    // The vectors of a quantity at the four nodes.
+    fn vectors(&self, quantity: Quantity, x: &Places) -> [Pull; 4]
+        requires { MayStand x.now (elastic_in self.now) }
+        ensures { result ≡ pulls_of quantity (elastic_contribution x.now (elastic_in self.now)) }
+    {
+        match quantity {
+            Quantity::Pull => self.pulls(x),
+            Quantity::Stiffness => self.diagonals(x),
+        }
+    }
+
+    // What pulls at the four nodes.
+    fn pulls(&self, x: &Places) -> [Pull; 4]
+        requires { MayStand x.now (elastic_in self.now) }
+        ensures { result ≡
+            pulls_of quantities.Pull (elastic_contribution x.now (elastic_in self.now)) }
+    {
+        let pulls = self.element.gradient(&corners_at(x, &self.nodes));
+        [
+            pull_at(self.nodes[0], pulls[0]),
+            pull_at(self.nodes[1], pulls[1]),
+            pull_at(self.nodes[2], pulls[2]),
+            pull_at(self.nodes[3], pulls[3]),
+        ]
+    }
+
+    // What is added to the diagonal at the four nodes.
+    fn diagonals(&self, x: &Places) -> [Pull; 4]
+        requires { MayStand x.now (elastic_in self.now) }
+        ensures { result ≡
+            pulls_of quantities.Stiffness (elastic_contribution x.now (elastic_in self.now)) }
+    {
+        let corners = corners_at(x, &self.nodes);
+        [
+            pull_at(self.nodes[0], self.diagonal(&corners, 0)),
+            pull_at(self.nodes[1], self.diagonal(&corners, 1)),
+            pull_at(self.nodes[2], self.diagonal(&corners, 2)),
+            pull_at(self.nodes[3], self.diagonal(&corners, 3)),
+        ]
+    }
+
+    // The diagonal of the block of a node with itself.
+    fn diagonal(&self, corners: &[V3; 4], i: u8) -> [i128; 3]
+        requires stand { CanStand corners.now }
+        requires there { i < 4 }
+        ensures { result ≡ components (diagonal_of
+            (elastic_block (elastic_in self.now).rest (elastic_in self.now).mu
+            (elastic_in self.now).lambda corners.now i i)) }
+    {
+        let block = self.element.block(corners, i, i);
+        [block[0][0], block[1][1], block[2][2]]
+    }
+}
+
+// The elastic energy of all tetrahedra.
+pub(crate) fn elastic_energy(bodies: &[Body], x: &Places) -> i128
+    requires few { length bodies.now ≤ 65536 }
+    requires stand { All (λ body. MayStand x.now (elastic_in body)) bodies.now }
+    ensures value { result ≡
+        total (map (λ body. (elastic_contribution x.now (elastic_in body)).energy) bodies.now) }
+    ensures small { AtMost (2 ^ 106) result }
+{
+    let mut sum = 0;
+    for body in bodies {
+        sum += body.energy(x);
+    }
+    sum
+}
+
+// Adds what elasticity gives at each node.
+pub(crate) fn add_elastic_vectors(quantity: Quantity, sums: &mut [W3], bodies: &[Body], x: &Places)
+    requires nodes { length sums.old ≡ length x.now }
+    requires few { length bodies.now ≤ 65536 }
+    requires stand { All (λ body. MayStand x.now (elastic_in body)) bodies.now }
+    requires small { AreLight (2 ^ 118) sums.old }
+    ensures { sums.new ≡ with_parts quantity sums.old
+        (map (λ body. elastic_contribution x.now (elastic_in body)) bodies.now) }
+{
+    for body in bodies {
+        add_pulls(sums, &body.vectors(quantity, x));
+    }
+}

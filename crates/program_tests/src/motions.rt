@@ -1,0 +1,74 @@
+//! Worked cases of motion: a body that flies towards another, and one that hangs and springs back.
+
+use crate::desk::{Desk, RUN};
+use std::test::Fail;
+
+const FORMAT: &str = "$MeshFormat\n2.2 0 8\n$EndMeshFormat\n$Nodes\n";
+
+const NAMES: &str = "mesh = \"t.msh\"\nout = \"o\"\ndigits = 0\ntol = 0\ndhat = 2\nkappa = 1\n";
+
+/// A tetrahedron that is fixed, the one below with corners at 0 and at 100 along each axis.
+const FIXED: &str = "[[part]]\ntag = 1\nfixed = true\n";
+
+const CORNERS: &str = "1 0 0 0\n2 100 0 0\n3 0 100 0\n4 0 0 100\n";
+
+/// A second one ten grid units before the first one's face, with a corner ahead; a grid unit before it; and the same two
+/// frames on.
+const BEFORE: &str = "5 -10 20 20\n6 -110 120 20\n7 -110 -80 20\n8 -110 20 120\n";
+
+const CLOSE: &str = "5 -1 20 20\n6 -101 120 20\n7 -101 -80 20\n8 -101 20 120\n";
+
+const PAST: &str = "5 -1 20 620\n6 -101 120 620\n7 -101 -80 620\n8 -101 20 720\n";
+
+// Each step is halved until it ends before the face, the last one to a single grid unit. Whole halvings of what is left
+// then pass through the face, or end on it.
+#[test]
+fn bodies_that_fly_at_one_another_stop_before_they_meet(rt: HostRuntime) -> Result<(), Fail> {
+    let numbers = "frames = 2\nbudget = 10\n[material]\ndensity = 1\nmu = 0\nlambda = 0\n";
+    let elements = "$EndNodes\n$Elements\n2\n1 4 2 1 1 1 2 3 4\n2 4 2 2 2 5 6 7 8\n$EndElements\n";
+    let stopped = "frame 1 stalled 2\nframe 2 stalled 0\n";
+    let table = [
+        (BEFORE, "velocity = [64, 0, 0]\n", 1, stopped, CLOSE),
+        // to the other side within one frame
+        (BEFORE, "velocity = [400, 0, 0]\n", 1, stopped, CLOSE),
+        // along the face, a grid unit away from it
+        (
+            CLOSE,
+            "velocity = [0, 0, 300]\n",
+            0,
+            "frame 1 converged 1\nframe 2 converged 1\n",
+            PAST,
+        ),
+    ];
+    for (start, velocity, status, lines, end) in table {
+        let mesh = [FORMAT, "8\n", CORNERS, start, elements];
+        let scene = [NAMES, numbers, FIXED, "[[part]]\ntag = 2\n", velocity];
+        let mut desk = Desk::new(rt.alloc(), &mesh, &scene)?;
+        desk.obey(&RUN)?;
+        assert!(rt; desk.says(status, &["mesh nodes 8 tets 2\nframe 0 start\n", lines])?);
+        let last = [FORMAT, "8\n", CORNERS, end, elements];
+        assert!(rt; desk.has("o_0002.msh", Some(&last))?);
+    }
+    Ok(())
+}
+
+// A soft tetrahedron hangs on the fixed one by a face. The numbers are those of a short program in Python.
+#[test]
+fn a_soft_body_springs_back(rt: HostRuntime) -> Result<(), Fail> {
+    let numbers = "frames = 6\nbudget = 40\ngravity = [0, 0, -5120]\n[material]\ndensity = 1\nmu = 2000\nlambda = 2000\n";
+    let elements = "$EndNodes\n$Elements\n2\n1 4 2 1 1 1 2 3 4\n2 4 2 2 2 2 3 4 5\n$EndElements\n";
+    let mesh = [FORMAT, "5\n", CORNERS, "5 100 100 100\n", elements];
+    let mut desk = Desk::new(rt.alloc(), &mesh, &[NAMES, numbers, FIXED])?;
+    desk.obey(&RUN)?;
+    let lines = "frame 1 stalled 3\nframe 2 stalled 4\nframe 3 stalled 2\nframe 4 stalled 2\nframe 5 stalled 1\nframe 6 stalled 1\n";
+    assert!(rt; desk.says(1, &["mesh nodes 5 tets 2\nframe 0 start\n", lines])?);
+    for (name, last) in [
+        ("o_0001.msh", "5 102 102 89\n"),
+        ("o_0004.msh", "5 111 111 66\n"),
+        ("o_0006.msh", "5 110 110 70\n"),
+    ] {
+        let frame = [FORMAT, "5\n", CORNERS, last, elements];
+        assert!(rt; desk.has(name, Some(&frame))?);
+    }
+    Ok(())
+}

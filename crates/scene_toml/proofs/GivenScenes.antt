@@ -1,0 +1,38 @@
+-- The scene that the values at its keys give.
+use Rattle.std.proofs.Common.{◌≡◌, ℕ, ℤ, List, Ok, refl}
+use Rattle.std.specs.Prelude.{codes, map, unsigned_abs}
+use Rattle.toml.specs.Data.{Members}
+use Rattle.space3.specs.declared.vectors.V3.{V3}
+use Rattle.space3.specs.Vectors.{origin}
+use Rattle.surface_mesh.specs.declared.materials.Material.{Material}
+use Rattle.scene_toml.specs.declared.keys.Section.TheVariants.{Top}
+use Rattle.scene_toml.specs.declared.keys.TheConstants.{NAME_LENGTHS, FRAME_COUNTS, BUDGETS, TOLERANCES, GRAVITIES, CONTACT_DISTANCES, STIFFNESSES, ZERO}
+use Rattle.scene_toml.specs.declared.parts.PartKeys.{PartKeys}
+use Rattle.scene_toml.specs.Calls.{integer_at, material_at, parts_at, text_at, vector_at}
+use Rattle.scene_toml.specs.Keys.{key}
+use Rattle.scene_toml.specs.Parts.{with_base}
+use Rattle.scene_toml.specs.Scenes.{scene_in}
+
+pub scene_given : (ms : Members) (mesh out : List ℕ) (digits frames budget tol : ℤ) (gravity : V3) (dhat kappa : ℤ) (base : Material) (parts : List PartKeys)
+    → text_at Top (key (codes "mesh") NAME_LENGTHS) ms ≡ Ok mesh
+    → text_at Top (key (codes "out") NAME_LENGTHS) ms ≡ Ok out
+    → integer_at Top (key (codes "digits") ZERO) ms ≡ Ok digits
+    → integer_at Top (key (codes "frames") FRAME_COUNTS) ms ≡ Ok frames
+    → integer_at Top (key (codes "budget") BUDGETS) ms ≡ Ok budget
+    → integer_at Top (key (codes "tol") TOLERANCES) ms ≡ Ok tol
+    → vector_at Top (key (codes "gravity") GRAVITIES) origin ms ≡ Ok gravity
+    → integer_at Top (key (codes "dhat") CONTACT_DISTANCES) ms ≡ Ok dhat
+    → integer_at Top (key (codes "kappa") STIFFNESSES) ms ≡ Ok kappa
+    → material_at ms ≡ Ok base
+    → parts_at ms ≡ Ok parts
+    → scene_in ms ≡ Ok (record {
+      mesh = mesh;
+      out = out;
+      digits = unsigned_abs digits;
+      frames = unsigned_abs frames;
+      budget = unsigned_abs budget;
+      tol = tol;
+      numbers = record { base = base; parts = map (with_base base) parts; kappa = kappa; dhat = dhat; gravity = gravity };
+    })
+scene_given ms mesh out digits frames budget tol gravity dhat kappa base parts mesh-is out-is digits-is frames-is budget-is tol-is gravity-is dhat-is kappa-is base-is parts-is =
+    rw (mesh-is, out-is, digits-is, frames-is, budget-is, tol-is, gravity-is, dhat-is, kappa-is, base-is, parts-is) refl
