@@ -1,9 +1,11 @@
 -- What the nearest points are said to be.
-use Rattle.std.specs.Prelude.{◌≡◌, ℕ, ◌<◌, ◌*◌, ◌/◌, ◌^◌, pos, List, take, drop, max, ◌⊎◌}
+use Rattle.std.specs.Prelude.{◌≡◌, ℕ, ◌<◌, ◌*◌, ◌/◌, ◌^◌, pos, List, [], ◌∷◌, take, drop, max, unsigned_abs, ◌⊎◌, Option, Some, None}
 use Rattle.space3.specs.declared.vectors.V3.{V3}
-use Rattle.nearest.specs.Candidates.{Candidate, IsFirstLeast}
+use Rattle.nearest.specs.Candidates.{Candidate, IsFirstLeast, nearest_in}
 use Rattle.nearest.specs.Close.{AreClose}
+use Rattle.nearest.specs.PointAndTriangle.{vt_candidates}
 use Rattle.nearest.specs.RoundedWeights.{rounded_weights, AreOfTwoParts}
+use Rattle.nearest.specs.TwoEdges.{ee_candidates}
 use Rattle.near_pair.specs.declared.near.Near.{Near}
 
 -- the numbers are the candidate's
@@ -37,3 +39,13 @@ pub record IsOn (split : ℕ) (points : List V3) (near : Near) : Type 0 where
 -- the squared distance with 8 fraction bits, rounded down but at least 1, so that its logarithm is there
 abbrev pub squared_distance : Near → ℕ
 squared_distance near = max 1 (256 * near.num / near.den)
+
+-- the nearest points that a candidate stands for
+abbrev pub near_by : Option Candidate → Near
+near_by (Some k) = record { num = unsigned_abs k.num; den = unsigned_abs k.den; weights = rounded_weights k }
+near_by None = record { num = 0; den = 1; weights = [] }
+
+-- the nearest points of a point and a triangle, or of two edges
+abbrev pub near_between : List V3 → List V3 → Near
+near_between (p ∷ []) triangle = near_by (nearest_in (vt_candidates p triangle))
+near_between first second = near_by (nearest_in (ee_candidates first second))

@@ -6,7 +6,7 @@ ghost use Rattle.nearest.specs.Hulls.{NoneIsNearer};
 ghost use Rattle.nearest.specs.PointAndTriangle.{vt_candidates};
 ghost use Rattle.nearest.specs.RoundedWeights.{AreOfTwoParts};
 ghost use Rattle.nearest.specs.TwoEdges.{ee_candidates};
-ghost use Rattle.near_pair.specs.Answers.{IsFirstLeastOf, IsBounded};
+ghost use Rattle.near_pair.specs.Answers.{IsFirstLeastOf, IsBounded, near_between};
 ghost use Rattle.near_pair.specs.Calls.Ways.{AreEdgeWaysOf, AreWaysOf};
 
 use crate::edges::nearest_of_edges;
@@ -31,6 +31,7 @@ pub struct Near {
 /// are allowed. The first part is the point.
 pub fn near_vt(p: V3, t: &[V3; 3]) -> Near
     requires close { AreClose (p ∷ []) t.now }
+    ensures value { result ≡ near_between (p ∷ []) t.now }
     ensures answer { IsFirstLeastOf (vt_candidates p t.now) result }
     ensures least { NoneIsNearer (pos result.num) (pos result.den) (p ∷ []) t.now }
     ensures bounded { IsBounded result }
@@ -59,6 +60,7 @@ fn triangle_ways(p: V3, t: &[V3; 3]) -> TriangleWays
 /// edge.
 pub fn near_ee(a: &[V3; 2], b: &[V3; 2]) -> Near
     requires close { AreClose a.now b.now }
+    ensures value { result ≡ near_between a.now b.now }
     ensures answer { IsFirstLeastOf (ee_candidates a.now b.now) result }
     ensures least { NoneIsNearer (pos result.num) (pos result.den) a.now b.now }
     ensures bounded { IsBounded result }

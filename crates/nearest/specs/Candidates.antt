@@ -1,5 +1,6 @@
 -- Pairs of points that may be nearest, and which of them is taken.
-use Rattle.std.specs.Prelude.{◌≡◌, ℕ, ℤ, pos, ◌*ℤ◌, ◌≤ℤ◌, ◌<ℤ◌, List, ◌++◌, take, slice_get, All, Option, Some, IfSome}
+use Rattle.std.specs.Prelude.{◌≡◌, ℕ, ℤ, pos, ◌*ℤ◌, ◌≤ℤ◌, ◌<ℤ◌, Bool, true, ◌&&◌, int_le, int_lt, List, ◌++◌, take, filter, find, slice_get, All, Option, Some, None, IfSome}
+use Rattle.std.specs.List.{list_all}
 
 -- A point of each of two parts, as weights over `den` on the points of the part: the points that are listed have one, the
 -- others have none. The squared distance of the two is num / den.
@@ -36,3 +37,19 @@ pub record IsFirstLeast (candidates : List Candidate) (c : Candidate) : Type 0 w
   pub valid : IsValid c
   pub least : All (λ other. IsValid other → IsAtMost c other) candidates
   pub first : All (λ other. IsValid other → IsBelow c other) (take place candidates)
+
+-- the same as tests
+abbrev pub is_positive_if_listed : Option ℤ → Bool
+is_positive_if_listed (Some weight) = int_lt (pos 0) weight
+is_positive_if_listed None = true
+
+abbrev pub is_valid : Candidate → Bool
+is_valid c = int_lt (pos 0) c.den && list_all is_positive_if_listed (c.left ++ c.right)
+
+abbrev pub is_at_most : Candidate → Candidate → Bool
+is_at_most c other = int_le (c.num *ℤ other.den) (other.num *ℤ c.den)
+
+-- the first of the valid candidates than which none of them has a smaller distance
+abbrev pub nearest_in : List Candidate → Option Candidate
+nearest_in candidates =
+    let valid = filter is_valid candidates in find (λ c. list_all (is_at_most c) valid) valid

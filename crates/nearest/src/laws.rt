@@ -1,12 +1,12 @@
 //! What the candidates are, and what the first least candidate says of all points of both parts. They are after Li
 //! and others, "Incremental Potential Contact", 2020, whose distances are those of the same nearest points.
 //! A law is a function that does nothing, whose contract is the law.
-ghost use Rattle.std.specs.Prelude.{◌≡◌, ℕ, ◌≤◌, ℤ, pos, List, [], ◌∷◌, All, IsTrue};
+ghost use Rattle.std.specs.Prelude.{◌≡◌, ℕ, ◌≤◌, ℤ, pos, List, [], ◌∷◌, All, IsTrue, Some};
 ghost use Rattle.space3.specs.declared.vectors.V3.{V3};
 ghost use Rattle.space3.specs.Boxes.{box_of, are_within};
 ghost use Rattle.space3.specs.Vectors.{Within, difference};
 ghost use Rattle.nearest.specs.declared.limits.TheConstants.{APART_LIMIT, GAP_LIMIT};
-ghost use Rattle.nearest.specs.Candidates.{Candidate, IsValid, IsFirstLeast};
+ghost use Rattle.nearest.specs.Candidates.{Candidate, IsValid, IsFirstLeast, nearest_in};
 ghost use Rattle.nearest.specs.Close.{AreClose, HasShortEdges};
 ghost use Rattle.nearest.specs.Distances.{IsDistance};
 ghost use Rattle.nearest.specs.Examples.{flat_triangle, from_first_end, high_edge, high_point};
@@ -59,6 +59,12 @@ pub fn taken_is_nearest_of_edges()
 pub fn one_is_taken()
     ensures { (candidates : List Candidate) (k j : Candidate) → IsFirstLeast candidates k →
         IsFirstLeast candidates j → k ≡ j }
+{}
+
+/// The first least candidate is the one that the search in a list finds.
+pub fn first_least_is_found()
+    ensures { (candidates : List Candidate) (k : Candidate) → IsFirstLeast candidates k →
+        nearest_in candidates ≡ Some k }
 {}
 
 /// The rounded weights of the candidate that is taken for a point and a triangle are coefficients in each part.

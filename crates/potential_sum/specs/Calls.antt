@@ -1,4 +1,5 @@
 -- Words of the private functions.
+pub mod Barriers
 pub mod Inertia
 pub mod Kept
 pub mod Sums

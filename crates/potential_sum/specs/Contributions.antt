@@ -1,11 +1,19 @@
--- What the potential of a frame is the sum of: one contribution a node for its inertia, and one a tetrahedron for its
--- elasticity.
-use Rattle.std.specs.Prelude.{ℕ, ◌==◌, ℤ, pos, List, [], ◌∷◌, ◌++◌, map, zip, slice_index_or, if◌then◌else◌}
+-- What the potential of a frame is the sum of: one contribution a node for its inertia, one a tetrahedron for its
+-- elasticity, and one a pair of close parts of the surface for its barrier.
+use Rattle.std.specs.Prelude.{ℕ, ◌==◌, ℤ, pos, List, [], ◌∷◌, ◌++◌, length, map, zip, slice_index_or, unsigned_abs, if◌then◌else◌}
 use Rattle.space3.specs.declared.vectors.V3.{V3}
 use Rattle.space3.specs.Vectors.{origin, sum_of, vector}
 use Rattle.space3.specs.Mesh.{place_of}
+use Rattle.safe_motion.specs.Safety.{PartPair}
+use Rattle.boundary.specs.Pairs.{part_pair}
+use Rattle.broad_grid.specs.NearPairs.{close_pairs_of}
+use Rattle.surface_mesh.specs.declared.materials.Numbers.{Numbers}
 use Rattle.surface_mesh.specs.declared.setup.Setup.{Setup}
 use Rattle.surface_mesh.specs.Setup.{node_positions}
+use Rattle.near_pair.specs.Answers.{near_between}
+use Rattle.barrier_term.specs.Barrier.{barrier_energy}
+use Rattle.barrier_term.specs.Blocks.{barrier_block}
+use Rattle.barrier_term.specs.Gradients.{barrier_gradient}
 use Rattle.vec_q.specs.Matrices.{M3}
 use Rattle.inertia_term.specs.Inertia.{inertia_block, inertia_energy, inertia_gradient}
 use Rattle.neo_hooke.specs.Block.{elastic_block}
@@ -50,10 +58,30 @@ elastic_contribution places tet =
       diagonals = map (λ (i : ℕ). diagonal_of (elastic_block tet.rest tet.mu tet.lambda x i i)) (0 ∷ 1 ∷ 2 ∷ 3 ∷ []);
     }
 
+-- the barrier between two parts of the surface, which are given by their nodes
+abbrev pub barrier_contribution : Numbers → (places : List V3) → PartPair → Contribution
+barrier_contribution numbers places parts =
+    let first = map (place_of places) parts.left in
+    let second = map (place_of places) parts.right in
+    let near = near_between first second in
+    let split = length parts.left in record {
+      nodes = parts.left ++ parts.right;
+      energy = barrier_energy numbers.kappa numbers.dhat near;
+      pulls = barrier_gradient numbers.kappa numbers.dhat near split (first ++ second);
+      diagonals = map (λ (i : ℕ). diagonal_of (barrier_block numbers.kappa numbers.dhat near split (first ++ second) i i)) (0 ∷ 1 ∷ 2 ∷ 3 ∷ []);
+    }
+
+-- a point and a triangle, or two edges, whose boxes have a gap of at most dhat along each axis
+abbrev pub close_parts : Setup → (places : List V3) → List PartPair
+close_parts setup places =
+    map (part_pair setup.surface) (close_pairs_of (unsigned_abs setup.numbers.dhat) setup.surface places)
+
 -- all contributions where the nodes stand at these places
 abbrev pub contributions : Setup → FrameTerms → (places : List V3) → List Contribution
 contributions setup frame places =
-    map (inertia_contribution setup frame places) (node_positions setup.mesh) ++ map (elastic_contribution places) (elastic_tets setup)
+    map (inertia_contribution setup frame places) (node_positions setup.mesh)
+    ++ map (elastic_contribution places) (elastic_tets setup)
+    ++ map (barrier_contribution setup.numbers places) (close_parts setup places)
 
 -- the sum of vectors
 abbrev pub vector_total : List V3 → V3
