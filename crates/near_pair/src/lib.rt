@@ -7,7 +7,9 @@ mod distance;
 mod edges;
 mod found;
 mod near;
+mod parts;
 mod triangles;
 
 pub use distance::weight_at;
 pub use near::{Near, near_ee, near_vt};
+pub use parts::near_parts;
