@@ -1,16 +1,18 @@
 //! The barriers between close parts of the surface.
 ghost use Rattle.std.specs.Prelude.{◌≡◌, ◌≤◌, ◌<◌, ◌^◌, IfOk, All, map, length, unsigned_abs};
 ghost use Rattle.list_laws.specs.Sums.{total};
-ghost use Rattle.space3.specs.Mesh.{HasNodes, place_of};
 ghost use Rattle.space3.specs.Vectors.{AtMost};
+ghost use Rattle.vec_q.specs.Rows.{components};
+ghost use Rattle.near_pair.specs.Answers.{IsBounded, IsOn};
+ghost use Rattle.barrier_term.specs.Blocks.{barrier_block};
 ghost use Rattle.boundary.specs.Pairs.{IsPair, part_pair};
 ghost use Rattle.broad_grid.specs.NearPairs.{close_pairs_of};
 ghost use Rattle.surface_mesh.specs.Materials.{AreNumbers};
 ghost use Rattle.surface_mesh.specs.Setup.{IsSetup};
 ghost use Rattle.potential_sum.specs.declared.pulls.Quantity.TheVariants as quantities;
-ghost use Rattle.potential_sum.specs.Calls.Barriers.{AreFour, MayPush, barrier_at, parts_in};
+ghost use Rattle.potential_sum.specs.Calls.Barriers.{AreFour, IsClosePair, MayPush, barrier_at, parts_in};
 ghost use Rattle.potential_sum.specs.Calls.Sums.{AreLight, pulls_of, with_parts};
-ghost use Rattle.potential_sum.specs.Contributions.{barrier_contribution};
+ghost use Rattle.potential_sum.specs.Contributions.{barrier_contribution, diagonal_of};
 ghost use Rattle.potential_sum.specs.Upright.{IsUpright};
 
 use crate::bodies::corners_at;
@@ -116,14 +118,61 @@ impl TwoParts {
     {
         let points = corners_at(x, &self.nodes);
         let near = near_parts(self.split, &points);
-        let block = |i: u8| -> [[i128; 3]; 3] {
-            barrier_block(numbers.kappa, numbers.dhat, &near, self.split, &points, i, i)
-        };
         [
-            pull_at(self.nodes[0], diagonal_of(block(0))),
-            pull_at(self.nodes[1], diagonal_of(block(1))),
-            pull_at(self.nodes[2], diagonal_of(block(2))),
-            pull_at(self.nodes[3], diagonal_of(block(3))),
+            pull_at(self.nodes[0], self.diagonal(numbers, &near, &points, 0)),
+            pull_at(self.nodes[1], self.diagonal(numbers, &near, &points, 1)),
+            pull_at(self.nodes[2], self.diagonal(numbers, &near, &points, 2)),
+            pull_at(self.nodes[3], self.diagonal(numbers, &near, &points, 3)),
         ]
+    }
+
+    // The diagonal of the block of a point with itself.
+    fn diagonal(&self, numbers: &Numbers, near: &Near, points: &[V3; 4], i: u8) -> [i128; 3]
+        requires numbers { AreNumbers numbers.now }
+        requires bounded { IsBounded near.now }
+        requires on { IsOn self.now.split points.now near.now }
+        requires there { i < 4 }
+        ensures { result ≡ components (diagonal_of (barrier_block numbers.now.kappa
+            numbers.now.dhat near.now self.now.split points.now i i)) }
+    {
+        let block = barrier_block(numbers.kappa, numbers.dhat, near, self.split, points, i, i);
+        [block[0][0], block[1][1], block[2][2]]
+    }
+}
+
+// The energies of the barriers of these pairs.
+pub(crate) fn barrier_energy_of(setup: &Setup, x: &Places, pairs: &[Pair]) -> i128
+    requires numbers { AreNumbers setup.now.numbers }
+    requires close { All (IsClosePair setup.now x.now) pairs.now }
+    requires few { length pairs.now ≤ 12884901888 }
+    ensures value { result ≡ total (map (λ pair. (barrier_at setup.now x.now pair).energy) pairs.now) }
+    ensures small { AtMost (2 ^ 124) result }
+{
+    let mut sum = 0;
+    for pair in pairs {
+        sum += parts_of(&setup.surface, *pair).energy(&setup.numbers, x);
+    }
+    sum
+}
+
+// Adds what the barriers of these pairs give at each node.
+pub(crate) fn add_barrier_vectors(
+    quantity: Quantity,
+    sums: &mut [W3],
+    setup: &Setup,
+    x: &Places,
+    pairs: &[Pair],
+)
+    requires nodes { length sums.old ≡ length x.now }
+    requires numbers { AreNumbers setup.now.numbers }
+    requires close { All (IsClosePair setup.now x.now) pairs.now }
+    requires few { length pairs.now ≤ 12884901888 }
+    requires small { AreLight (2 ^ 120) sums.old }
+    ensures { sums.new ≡ with_parts quantity sums.old
+        (map (barrier_at setup.now x.now) pairs.now) }
+{
+    for pair in pairs {
+        let parts = parts_of(&setup.surface, *pair);
+        add_pulls(sums, &parts.vectors(quantity, &setup.numbers, x));
     }
 }

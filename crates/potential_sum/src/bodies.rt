@@ -56,8 +56,8 @@ fn body_of(setup: &Setup, tet: &Tet) -> Body
     }
 }
 
-// Where the four nodes of a tetrahedron stand.
-fn corners_at(places: &Places, nodes: &[u32; 4]) -> [V3; 4]
+/// Where four nodes stand.
+pub(crate) fn corners_at(places: &Places, nodes: &[u32; 4]) -> [V3; 4]
     requires { HasNodes places.now nodes.now }
     ensures { result ≡ corners_at places.now nodes.now }
 {

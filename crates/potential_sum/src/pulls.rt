@@ -43,7 +43,7 @@ pub(crate) fn pull_at(node: u32, force: [i128; 3]) -> Pull
 pub(crate) fn add_pulls(sums: &mut [W3], pulls: &[Pull])
     requires few { length pulls.now ≤ 4 }
     requires there { All (λ pull. pull.node < length sums.old) pulls.now }
-    requires small { AreLight (2 ^ 120) sums.old }
+    requires small { AreLight (2 ^ 126 - 2 ^ 92) sums.old }
     requires pulls { All (λ pull. Within (2 ^ 90) (unbounded pull.force)) pulls.now }
     ensures { sums.new ≡ with_pulls sums.old pulls.now }
 {
@@ -54,8 +54,8 @@ pub(crate) fn add_pulls(sums: &mut [W3], pulls: &[Pull])
 }
 
 fn wide_sum(a: W3, b: W3) -> W3
-    requires left { Within (2 ^ 125) (unbounded a) }
-    requires right { Within (2 ^ 125) (unbounded b) }
+    requires left { Within (2 ^ 126) (unbounded a) }
+    requires right { Within (2 ^ 90) (unbounded b) }
     ensures { result ≡ wide_sum a b }
 {
     W3 {
@@ -66,8 +66,8 @@ fn wide_sum(a: W3, b: W3) -> W3
 }
 
 fn sum(a: i128, b: i128) -> i128
-    requires left { AtMost (2 ^ 125) a }
-    requires right { AtMost (2 ^ 125) b }
+    requires left { AtMost (2 ^ 126) a }
+    requires right { AtMost (2 ^ 90) b }
     ensures { result ≡ a +ℤ b }
 {
     a + b

@@ -7,13 +7,14 @@ ghost use Rattle.surface_mesh.specs.Setup.{IsSetup};
 ghost use Rattle.surface_mesh.specs.Sturdy.{IsSturdy};
 ghost use Rattle.potential_sum.specs.Calls.Inertia.{AreMovers, part_at};
 ghost use Rattle.potential_sum.specs.Calls.Kept.{MayStand, elastic_in};
-ghost use Rattle.potential_sum.specs.Calls.Sums.{node_numbers, node_sums};
+ghost use Rattle.potential_sum.specs.Calls.Sums.{AreLight, node_numbers, node_sums};
 ghost use Rattle.potential_sum.specs.Contributions.{elastic_contribution};
 ghost use Rattle.potential_sum.specs.Diagonals.{diagonal};
 ghost use Rattle.potential_sum.specs.Upright.{IsUpright};
 ghost use Rattle.potential_sum.specs.Potential.{gradient, potential};
 ghost use Rattle.potential_sum.specs.Terms.{StandFor, terms_of};
 
+use crate::barriers::{add_barrier_vectors, barrier_energy_of, pairs_within_dhat};
 use crate::bodies::{Body, add_elastic_vectors, bodies_of, elastic_energy};
 use crate::inertia::{add_inertia_vectors, inertia_energy_of, targets_of};
 use crate::pulls::{Quantity, node_numbers};
@@ -76,16 +77,18 @@ impl Terms {
 
     /// The potential where the nodes stand at `x`: one place per node, with positive volumes and no edge component above
     /// 65536.
-    pub fn energy(&self, setup: &Setup, x: &Places) -> i128
+    pub fn energy(&self, alloc: Global, setup: &Setup, x: &Places) -> Result<i128, AllocError>
         requires built { IsSetup setup.now }
         requires sturdy { IsSturdy setup.now }
         requires stand { StandFor setup.now self.now }
         requires pose { IsUpright setup.now x.now }
-        ensures { result ≡ potential setup.now self.now.frame x.now }
+        ensures { IfOk result (λ energy. energy ≡ potential setup.now self.now.frame x.now) }
     {
+        let pairs = pairs_within_dhat(alloc, setup, x)?;
         let inertia = inertia_energy_of(setup.mass.items(), self.targets.as_slice(), x);
         let elastic = elastic_energy(self.bodies.as_slice(), x);
-        inertia + elastic
+        let barriers = barrier_energy_of(setup, x, pairs.items());
+        Ok(inertia + elastic + barriers)
     }
 
     /// The gradient where the nodes stand at `x`, as for [`Terms::energy`]: three numbers per node in grid units times
@@ -140,7 +143,8 @@ impl Terms {
         ensures { IfOk result (λ made.
             made.items ≡ node_numbers quantity setup.now self.now.frame x.now) }
     {
-        let sums = node_sums(
+        let pairs = pairs_within_dhat(alloc, setup, x)?;
+        let mut sums = body_sums(
             alloc,
             quantity,
             setup.mass.items(),
@@ -148,13 +152,14 @@ impl Terms {
             self.bodies.as_slice(),
             x,
         )?;
+        add_barrier_vectors(quantity, &mut sums, setup, x, pairs.items());
         let made = node_numbers(alloc, quantity, sums.as_slice(), setup.fixed.items())?;
         Ok(made)
     }
 }
 
 // What inertia and elasticity add up to at each node.
-fn node_sums(
+fn body_sums(
     alloc: Global,
     quantity: Quantity,
     masses: &[i128],
@@ -166,9 +171,10 @@ fn node_sums(
     requires few_nodes { length x.now ≤ 16384 }
     requires few_bodies { length bodies.now ≤ 65536 }
     requires stand { All (λ body. MayStand x.now (elastic_in body)) bodies.now }
-    ensures { IfOk result (λ made. made.items ≡ node_sums quantity (length x.now)
+    ensures sums { IfOk result (λ made. made.items ≡ node_sums quantity (length x.now)
         (map (part_at masses.now targets.now x.now) (range_with_len 0 (length x.now)) ++
         map (λ body. elastic_contribution x.now (elastic_in body)) bodies.now)) }
+    ensures small { IfOk result (λ made. AreLight (2 ^ 120) made.items) }
 {
     let mut sums = vec![in alloc; NOTHING; x.len() as usize]?;
     add_inertia_vectors(quantity, &mut sums, masses, targets, x);

@@ -1,9 +1,14 @@
 -- Parts of the surface between which there may be a barrier.
-use Rattle.std.specs.Prelude.{◌≡◌, ℕ, ◌<◌, ◌⊎◌, ◌×◌, List, ◌++◌, length, map, slice_index}
+use Rattle.std.specs.Prelude.{◌≡◌, ℕ, ◌<◌, ◌⊎◌, List, ◌++◌, length, map, take, drop, slice_index}
 use Rattle.space3.specs.declared.vectors.V3.{V3}
 use Rattle.space3.specs.Mesh.{HasNodes, place_of}
 use Rattle.safe_motion.specs.Safety.{PartPair}
+use Rattle.boundary.specs.declared.pairs.Pair.{Pair}
+use Rattle.boundary.specs.Pairs.{IsPair, part_pair}
+use Rattle.surface_mesh.specs.declared.setup.Setup.{Setup}
 use Rattle.nearest.specs.Close.{AreClose}
+use Rattle.potential_sum.specs.declared.barriers.TwoParts.{TwoParts}
+use Rattle.potential_sum.specs.Contributions.{Contribution, barrier_contribution}
 
 -- one node and three, or two and two
 abbrev pub AreFour : PartPair → Type 0
@@ -19,3 +24,16 @@ pub record MayPush (places : List V3) (parts : PartPair) : Type 0 where
   pub there : HasNodes places (parts.left ++ parts.right)
   pub different : AreDifferent (parts.left ++ parts.right)
   pub close : AreClose (map (place_of places) parts.left) (map (place_of places) parts.right)
+
+-- the parts that are held
+abbrev pub parts_in : TwoParts → PartPair
+parts_in parts = record { left = take parts.split parts.nodes; right = drop parts.split parts.nodes }
+
+-- a pair of the surface between whose parts there may be a barrier
+pub record IsClosePair (setup : Setup) (places : List V3) (pair : Pair) : Type 0 where
+  pub there : IsPair setup.surface pair
+  pub close : MayPush places (part_pair setup.surface pair)
+
+-- the barrier of a pair
+abbrev pub barrier_at : Setup → (places : List V3) → Pair → Contribution
+barrier_at setup places pair = barrier_contribution setup.numbers places (part_pair setup.surface pair)

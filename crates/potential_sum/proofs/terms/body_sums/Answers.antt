@@ -11,7 +11,7 @@ use Rattle.potential_sum.specs.Contributions.{Contribution, elastic_contribution
 use Rattle.potential_sum.proofs.Lightness.{start_light}
 use Rattle.potential_sum.proofs.Parts.{elastic-part-inside, inertia-parts-inside, inertia-parts-small}
 use Rattle.potential_sum.proofs.PullSums.{IsInside, node_sums-none, with_parts-sums, written_back}
-use Rattle.potential_sum.proofs.terms.node_sums.Goals as goal
+use Rattle.potential_sum.proofs.terms.body_sums.Goals as goal
 
 pub add_elastic_vectors-requires-clause-small : goal.add_elastic_vectors-requires-clause-small
 add_elastic_vectors-requires-clause-small c =
