@@ -7,8 +7,10 @@ pub mod OneSurface
 pub mod Order
 pub mod OwnersInGroups
 pub mod PairFirsts
+pub mod PairNodes
 pub mod PairOrder
 pub mod PairStands
+pub mod SidesOfTets
 pub mod SomeOutcome
 pub mod SortedGroups
 pub mod SortedOnce

@@ -1,5 +1,6 @@
 mod BoxesInTheBox
+pub mod CloseCounts
 mod Counts
 mod PlacedParts
-mod RowsOfPairs
+pub mod RowsOfPairs
 pub mod Untouched

@@ -2,6 +2,7 @@ pub mod Chains
 pub mod CountedWrites
 pub mod Decisions
 pub mod Elements
+pub mod FilteredSearches
 pub mod Filters
 pub mod Firsts
 pub mod Fours

@@ -6,6 +6,7 @@ pub mod Coefficients
 pub mod EdgeBounds
 pub mod EdgesLaw
 pub mod Examples
+pub mod FirstFound
 pub mod FirstLeast
 pub mod FootLeads
 pub mod InsideTaken
