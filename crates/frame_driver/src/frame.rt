@@ -37,7 +37,7 @@ pub(crate) fn descend(
 {
     let mut slopes = Vec::new(alloc);
     let mut x = now.copy(alloc)?;
-    let mut upper = terms.energy(setup, &x);
+    let mut upper = terms.energy(alloc, setup, &x)?;
     for taken in 0..budget {
         match next_at(alloc, setup, terms, tol, &x, upper, &mut slopes)? {
             Next::Converged => return Ok((x, FrameEnd::Converged { steps: taken })),

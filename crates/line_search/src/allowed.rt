@@ -45,7 +45,7 @@ pub(crate) fn lower_if_allowed(
     if !are_upright(tets, y) {
         return Ok(None);
     }
-    let lower = terms.energy(setup, y);
+    let lower = terms.energy(alloc, setup, y)?;
     if upper <= lower {
         return Ok(None);
     }

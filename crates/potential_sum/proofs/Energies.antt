@@ -1,5 +1,6 @@
 -- Sums of energies.
-use Rattle.std.proofs.Common.{◌≡◌, ◌∙◌, ℕ, ◌+◌, ◌*◌, ◌^◌, ◌≤◌, ◌<◌, ℤ, pos, ◌+ℤ◌, ◌*ℤ◌, List, [], ◌∷◌, ◌++◌, length, map, ap, sym, arith, unsigned_abs, to_z, of_z, FitsSigned}
+use Rattle.std.proofs.Common.{◌≡◌, ◌∙◌, ℕ, ◌+◌, ◌*◌, ◌^◌, ◌≤◌, ◌<◌, ℤ, pos, ◌+ℤ◌, ◌*ℤ◌, List, [], ◌∷◌, ◌++◌, length, map, ap, sym, arith, unsigned_abs, to_z, of_z, neg_ℤ, true, false, FitsSigned}
+use Rattle.std.specs.Prelude.{Bool, nat_lt, if◌then◌else◌}
 use Rattle.std.specs.Int.{w128}
 use Rattle.std.specs.List.{range_with_len}
 use Rattle.std.proofs.lemmas.List.{map-append}
@@ -11,6 +12,16 @@ use Rattle.num_q.specs.Rounding.{cut_of, floor_of}
 use Rattle.num_q.proofs.Bounds.{cut_below}
 use Rattle.space3.specs.declared.vectors.V3.{V3}
 use Rattle.space3.specs.Vectors.{AtMost, dot_product}
+use Rattle.space3.specs.Mesh.{place_of}
+use Rattle.safe_motion.specs.Safety.{PartPair}
+use Rattle.boundary.specs.declared.pairs.Pair.{Pair}
+use Rattle.boundary.specs.Pairs.{part_pair}
+use Rattle.broad_grid.specs.NearPairs.{close_pairs_of}
+use Rattle.fixed_log.specs.Logarithm.{ln_ratio_of}
+use Rattle.near_pair.specs.declared.near.Near.{Near}
+use Rattle.near_pair.specs.Answers.{near_between, squared_distance}
+use Rattle.barrier_term.specs.Barrier.{depth, energy_at as barrier_energy_at, reach_of}
+use Rattle.surface_mesh.specs.declared.materials.Numbers.{Numbers}
 use Rattle.surface_mesh.specs.declared.setup.Setup.{Setup}
 use Rattle.surface_mesh.specs.Setup.{node_positions}
 use Rattle.inertia_term.specs.Inertia.{inertia_energy, offset_of}
@@ -19,9 +30,10 @@ use Rattle.neo_hooke.specs.Rest.{edge_matrix}
 use Rattle.neo_hooke.specs.Strain.{log_volume, squared_strain}
 use Rattle.potential_sum.specs.declared.bodies.Body.{Body}
 use Rattle.potential_sum.specs.Bodies.{ElasticTet, corners_at, elastic_tets}
+use Rattle.potential_sum.specs.Calls.Barriers.{barrier_at}
 use Rattle.potential_sum.specs.Calls.Inertia.{energy_at}
 use Rattle.potential_sum.specs.Calls.Kept.{elastic_in}
-use Rattle.potential_sum.specs.Contributions.{Contribution, elastic_contribution, inertia_contribution}
+use Rattle.potential_sum.specs.Contributions.{Contribution, barrier_contribution, close_parts, elastic_contribution, inertia_contribution}
 use Rattle.potential_sum.specs.Potential.{potential}
 use Rattle.potential_sum.specs.Terms.{FrameTerms}
 
@@ -35,7 +47,7 @@ pub record IsAdded (before after : List ℤ) (i : ℕ) (a r : ℤ) : Type 0 wher
   pub sum : to_z w128 (of_z w128 (a +ℤ r)) ≡ total after
   pub bound : unsigned_abs (to_z w128 (of_z w128 (a +ℤ r))) ≤ (i + 1) * 2 ^ 90
 
-pub added : (before after : List ℤ) (i : ℕ) (a r x : ℤ) → a ≡ total before → unsigned_abs a ≤ i * 2 ^ 90 → r ≡ x → AtMost (2 ^ 90) x → i < 65536 → total after ≡ total before +ℤ x → IsAdded before after i a r
+pub added : (before after : List ℤ) (i : ℕ) (a r x : ℤ) → a ≡ total before → unsigned_abs a ≤ i * 2 ^ 90 → r ≡ x → AtMost (2 ^ 90) x → i < 2 ^ 34 → total after ≡ total before +ℤ x → IsAdded before after i a r
 added before after i a r x h k e l few s =
     let one : unsigned_abs r ≤ 2 ^ 90 = rw e l.bound in
     let all : unsigned_abs (a +ℤ r) ≤ (i + 1) * 2 ^ 90 = omega (arith, size_sum a r) in
@@ -68,20 +80,45 @@ elastic-small places tet =
     let log = log_volume tet.rest edges in
     cut-small 90 (stretch_energy tet.mu tet.rest.r (squared_strain tet.rest edges) +ℤ shear_energy tet.mu tet.rest.r log +ℤ volume_energy tet.lambda tet.rest.r log)
 
--- the potential in two parts
-pub potential-parts : (s : Setup) (frame : FrameTerms) (places : List V3) → potential s frame places ≡
-    total (map (energy_at s.mass frame.targets places) (node_positions s.mesh)) +ℤ total (map (λ tet. (elastic_contribution places tet).energy) (elastic_tets s))
-potential-parts s frame places =
-    let nodes = map (inertia_contribution s frame places) (node_positions s.mesh) in
-    let tets = map (elastic_contribution places) (elastic_tets s) in
-    ap total (map-append (λ (part : Contribution). part.energy) nodes tets) ∙ total-append (map (λ (part : Contribution). part.energy) nodes) (map (λ (part : Contribution). part.energy) tets)
-    ∙ (λ i. total (map-map (λ (part : Contribution). part.energy) (inertia_contribution s frame places) (node_positions s.mesh) i) +ℤ total (map-map (λ (part : Contribution). part.energy) (elastic_contribution places) (elastic_tets s) i))
-
--- it, from what is kept
-pub potential-kept : (s : Setup) (frame : FrameTerms) (places : List V3) (bodies : List Body) → length places ≡ length s.mesh.numbers → map elastic_in bodies ≡ elastic_tets s →
-    total (map (energy_at s.mass frame.targets places) (range_with_len 0 (length places))) +ℤ total (map (λ body. (elastic_contribution places (elastic_in body)).energy) bodies) ≡ potential s frame places
-potential-kept s frame places bodies e kept =
-    (λ i. total (map (energy_at s.mass frame.targets places) (range_with_len 0 (e i))) +ℤ total (of_tets i)) ∙ sym (potential-parts s frame places)
+pub barrier-small : (numbers : Numbers) (places : List V3) (parts : PartPair) → AtMost (2 ^ 90) (barrier_contribution numbers places parts).energy
+barrier-small numbers places parts = where_active (nat_lt d e)
   where
+    near : Near
+    near = near_between (map (place_of places) parts.left) (map (place_of places) parts.right)
+
+    d : ℕ
+    d = squared_distance near
+
+    e : ℕ
+    e = reach_of numbers.dhat
+
+    where_active : (b : Bool) → AtMost (2 ^ 90) (if b then barrier_energy_at numbers.kappa d e else pos 0)
+    where_active true = cut-small 90 (floor_of (numbers.kappa *ℤ depth d e *ℤ depth d e *ℤ neg_ℤ (ln_ratio_of d e)) (pos (2 ^ 40)))
+    where_active false = record { bound = omega arith }
+
+-- the energies of nodes, tetrahedra and pairs
+energies-of : (nodes tets pairs : List Contribution) → total (map (λ part. part.energy) (nodes ++ tets ++ pairs)) ≡
+    (total (map (λ part. part.energy) nodes) +ℤ total (map (λ part. part.energy) tets)) +ℤ total (map (λ part. part.energy) pairs)
+energies-of nodes tets pairs =
+    let energy : Contribution → ℤ = λ part. part.energy in
+    ap total (map-append energy (nodes ++ tets) pairs) ∙ total-append (map energy (nodes ++ tets)) (map energy pairs)
+    ∙ ap (λ (z : ℤ). z +ℤ total (map energy pairs)) (ap total (map-append energy nodes tets) ∙ total-append (map energy nodes) (map energy tets))
+
+-- the potential, from what is kept and from the pairs that were found
+pub potential-kept : (s : Setup) (frame : FrameTerms) (places : List V3) (bodies : List Body) (pairs : List Pair) → length places ≡ length s.mesh.numbers → map elastic_in bodies ≡ elastic_tets s → pairs ≡ close_pairs_of (unsigned_abs s.numbers.dhat) s.surface places →
+    (total (map (energy_at s.mass frame.targets places) (range_with_len 0 (length places))) +ℤ total (map (λ body. (elastic_contribution places (elastic_in body)).energy) bodies)) +ℤ total (map (λ pair. (barrier_at s places pair).energy) pairs) ≡ potential s frame places
+potential-kept s frame places bodies pairs e kept found =
+    (λ i. (total (map (energy_at s.mass frame.targets places) (range_with_len 0 (e i))) +ℤ total (of_tets i)) +ℤ total (of_pairs i))
+    ∙ (λ i. (total (sym (map-map energy (inertia_contribution s frame places) (node_positions s.mesh)) i) +ℤ total (sym (map-map energy (elastic_contribution places) (elastic_tets s)) i)) +ℤ total (sym (map-map energy (barrier_contribution s.numbers places) (close_parts s places)) i))
+    ∙ sym (energies-of (map (inertia_contribution s frame places) (node_positions s.mesh)) (map (elastic_contribution places) (elastic_tets s)) (map (barrier_contribution s.numbers places) (close_parts s places)))
+  where
+    energy : Contribution → ℤ
+    energy part = part.energy
+
     of_tets : map (λ body. (elastic_contribution places (elastic_in body)).energy) bodies ≡ map (λ tet. (elastic_contribution places tet).energy) (elastic_tets s)
     of_tets = sym (map-map (λ (tet : ElasticTet). (elastic_contribution places tet).energy) elastic_in bodies) ∙ ap (map (λ (tet : ElasticTet). (elastic_contribution places tet).energy)) kept
+
+    of_pairs : map (λ pair. (barrier_at s places pair).energy) pairs ≡ map (λ parts. (barrier_contribution s.numbers places parts).energy) (close_parts s places)
+    of_pairs =
+        ap (map (λ pair. (barrier_at s places pair).energy)) found
+        ∙ sym (map-map (λ (parts : PartPair). (barrier_contribution s.numbers places parts).energy) (part_pair s.surface) (close_pairs_of (unsigned_abs s.numbers.dhat) s.surface places))

@@ -1,9 +1,9 @@
 -- The gradient and the diagonal from what was added up; how long they are, how great their numbers are, and where those of
 -- a node stand.
-use Rattle.std.proofs.Common.{◌≡◌, ◌∙◌, ℕ, suc, ◌+◌, ◌*◌, ◌<◌, ◌≤◌, ◌^◌, ℤ, true, false, List, [], ◌∷◌, ◌++◌, length, map, take, get_or, refl, ap, sym, arith, length-append, zero-add}
+use Rattle.std.proofs.Common.{◌≡◌, ◌∙◌, ℕ, suc, ◌+◌, ◌*◌, ◌<◌, ◌≤◌, ◌^◌, ℤ, true, false, List, [], ◌∷◌, ◌++◌, length, map, take, get_or, refl, ap, sym, subst, arith, lit≤, length-append, zero-add, unsigned_abs}
 use Rattle.std.specs.Prelude.{◌==◌, All, Bool, if◌then◌else◌, slice_index_or, zip}
 use Rattle.std.specs.List.{flat_map, range_with_len}
-use Rattle.std.proofs.lemmas.List.{length-map, length-take-le}
+use Rattle.std.proofs.lemmas.List.{length-map, length-take-le, map-append}
 use Rattle.std.proofs.lemmas.List.Elements.{All-nil, All-cons, All-head, All-tail, All-append, All-map}
 use Rattle.std.proofs.lemmas.List.FromFn.{length-range_with_len, get_or-range_with_len}
 use Rattle.std.proofs.lemmas.List.Concat.{get_or-flat_map}
@@ -15,27 +15,36 @@ use Rattle.space3.specs.declared.vectors.W3.{W3}
 use Rattle.space3.specs.Vectors.{AtMost, Within, origin}
 use Rattle.space3.proofs.Bounds.{within_more, within-sum}
 use Rattle.vec_q.specs.Rows.{components}
+use Rattle.safe_motion.specs.Safety.{PartPair}
+use Rattle.boundary.specs.declared.pairs.Pair.{Pair}
+use Rattle.boundary.specs.Pairs.{part_pair}
+use Rattle.broad_grid.specs.NearPairs.{close_pairs_of}
+use Rattle.surface_mesh.specs.declared.materials.Numbers.{Numbers}
 use Rattle.surface_mesh.specs.declared.setup.Setup.{Setup}
 use Rattle.surface_mesh.specs.Setup.{IsSetup, node_positions}
 use Rattle.potential_sum.specs.declared.bodies.Body.{Body}
 use Rattle.potential_sum.specs.declared.pulls.Quantity.{Quantity}
 use Rattle.potential_sum.specs.Bodies.{ElasticTet, elastic_of, elastic_tets}
+use Rattle.potential_sum.specs.Calls.Barriers.{MayPush, barrier_at}
 use Rattle.potential_sum.specs.Calls.Inertia.{part_at}
 use Rattle.potential_sum.specs.Calls.Kept.{elastic_in}
 use Rattle.potential_sum.specs.Calls.Sums.{node_numbers, node_sums, nothing, numbers_of, vector_at, wide}
-use Rattle.potential_sum.specs.Contributions.{Contribution, contributions, elastic_contribution, inertia_contribution, pull_at, stiffness_at, vector_total}
+use Rattle.potential_sum.specs.Contributions.{Contribution, barrier_contribution, close_parts, contributions, elastic_contribution, inertia_contribution, pull_at, stiffness_at, vector_total}
 use Rattle.potential_sum.specs.Diagonals.{cut_entries, diagonal, diagonal_at, ones}
 use Rattle.potential_sum.specs.Potential.{gradient, gradient_at}
 use Rattle.potential_sum.specs.Terms.{FrameTerms}
+use Rattle.potential_sum.specs.Upright.{IsUpright}
 use Rattle.potential_sum.proofs.Energies.{cut-small}
-use Rattle.potential_sum.proofs.Parts.{All-zip_right, elastic-pulls-weak, inertia-pulls-weak}
-use Rattle.potential_sum.proofs.PullSums.{length-node_sums}
+use Rattle.potential_sum.proofs.Parts.{All-zip_right, barrier-pulls-weak, elastic-pulls-weak, inertia-pulls-weak}
+use Rattle.potential_sum.proofs.CloseParts.{close_parts_may_push, few_close_parts}
+use Rattle.potential_sum.proofs.PullSums.{length-node_sums, once-size, vector_total-append}
 
--- ---- from what is kept
-pub contributions-kept : (s : Setup) (frame : FrameTerms) (x : List V3) (bodies : List Body) → length x ≡ length s.mesh.numbers → map elastic_in bodies ≡ elastic_tets s →
-    map (part_at s.mass frame.targets x) (range_with_len 0 (length x)) ++ map (λ body. elastic_contribution x (elastic_in body)) bodies ≡ contributions s frame x
-contributions-kept s frame x bodies e kept =
+-- ---- from what is kept, and the pairs that were found
+pub contributions-kept : (s : Setup) (frame : FrameTerms) (x : List V3) (bodies : List Body) (pairs : List Pair) → length x ≡ length s.mesh.numbers → map elastic_in bodies ≡ elastic_tets s → pairs ≡ close_pairs_of (unsigned_abs s.numbers.dhat) s.surface x →
+    map (part_at s.mass frame.targets x) (range_with_len 0 (length x)) ++ map (λ body. elastic_contribution x (elastic_in body)) bodies ++ map (barrier_at s x) pairs ≡ contributions s frame x
+contributions-kept s frame x bodies pairs e kept found =
     λ i. map (inertia_contribution s frame x) (range_with_len 0 (e i)) ++ (sym (map-map (elastic_contribution x) elastic_in bodies) ∙ ap (map (elastic_contribution x)) kept) i
+    ++ (ap (map (barrier_at s x)) found ∙ sym (map-map (barrier_contribution s.numbers x) (part_pair s.surface) (close_pairs_of (unsigned_abs s.numbers.dhat) s.surface x))) i
 
 flat_map_agree : {A : Type 0} (f g : ℕ → List A) (xs : List ℕ) → All (λ x. f x ≡ g x) xs → flat_map f xs ≡ flat_map g xs
 flat_map_agree f g [] h = refl
@@ -110,47 +119,74 @@ inertia-faint s frame places node = record { few = omega arith; weak = inertia-p
 elastic-faint : (places : List V3) (tet : ElasticTet) → IsFaint (elastic_contribution places tet)
 elastic-faint places tet = record { few = omega arith; weak = elastic-pulls-weak places tet }
 
-all_faint : (s : Setup) (frame : FrameTerms) (places : List V3) → All IsFaint (contributions s frame places)
-all_faint s frame places =
+-- what nodes and tetrahedra pull with
+bodies : Setup → FrameTerms → List V3 → List Contribution
+bodies s frame places = map (inertia_contribution s frame places) (node_positions s.mesh) ++ map (elastic_contribution places) (elastic_tets s)
+
+bodies_faint : (s : Setup) (frame : FrameTerms) (places : List V3) → All IsFaint (bodies s frame places)
+bodies_faint s frame places =
     All-append IsFaint (map (inertia_contribution s frame places) (node_positions s.mesh)) (map (elastic_contribution places) (elastic_tets s))
     (All-map IsFaint (inertia_contribution s frame places) (node_positions s.mesh) (λ k d l. inertia-faint s frame places _))
     (All-map IsFaint (elastic_contribution places) (elastic_tets s) (λ k d l. elastic-faint places _))
 
-many : (s : Setup) (frame : FrameTerms) (places : List V3) → IsSetup s → length (contributions s frame places) ≤ 81920
+many : (s : Setup) (frame : FrameTerms) (places : List V3) → IsSetup s → length (bodies s frame places) ≤ 81920
 many s frame places built =
     let nodes = map (inertia_contribution s frame places) (node_positions s.mesh) in
     let tets = map (elastic_contribution places) (elastic_tets s) in
     omega (arith, length-append nodes tets, length-map (node_positions s.mesh) (inertia_contribution s frame places), length-range_with_len 0 (length s.mesh.numbers), length-map (elastic_tets s) (elastic_contribution places), length-map s.mesh.tets (elastic_of s), built.mesh_is_sound.few_nodes, built.mesh_is_sound.few_tets)
 
--- each of the three numbers of a node is at most 2^109
-gradient_at_is_small : (s : Setup) (frame : FrameTerms) (places : List V3) (node : ℕ) → IsSetup s → Within (2 ^ 109) (gradient_at s frame places node)
-gradient_at_is_small s frame places node built = either (slice_index_or s.fixed node false)
+-- a barrier pulls at each node once at most, since its nodes differ
+barrier-pull-size : (numbers : Numbers) (places : List V3) (node : ℕ) (parts : PartPair) → MayPush places parts → Within (2 ^ 90) (pull_at node (barrier_contribution numbers places parts))
+barrier-pull-size numbers places node parts h = once-size (2 ^ 90) node (parts.left ++ parts.right) (barrier_contribution numbers places parts).pulls h.different (barrier-pulls-weak numbers places parts)
+
+-- each of the three numbers of a node is at most 2^124
+gradient_at_is_small : (s : Setup) (frame : FrameTerms) (places : List V3) (node : ℕ) → IsSetup s → IsUpright s places → Within (2 ^ 124) (gradient_at s frame places node)
+gradient_at_is_small s frame places node built pose = either (slice_index_or s.fixed node false)
   where
-    pulls : List V3
-    pulls = map (pull_at node) (contributions s frame places)
+    near : List Contribution
+    near = map (barrier_contribution s.numbers places) (close_parts s places)
 
-    free : Within (2 ^ 109) (vector_total pulls)
+    first : List V3
+    first = map (pull_at node) (bodies s frame places)
+
+    second : List V3
+    second = map (pull_at node) near
+
+    of_bodies : Within (81920 * 2 ^ 92) (vector_total first)
+    of_bodies =
+        within_more (length first * 2 ^ 92) (81920 * 2 ^ 92) (vector_total first)
+        (vector_total-size (2 ^ 92) first (All-map (Within (2 ^ 92)) (pull_at node) (bodies s frame places) (λ k d l. pull_at-size node _ (bodies_faint s frame places k d l))))
+        (omega (arith, length-map (bodies s frame places) (pull_at node), many s frame places built))
+
+    of_barriers : Within (12884901888 * 2 ^ 90) (vector_total second)
+    of_barriers =
+        within_more (length second * 2 ^ 90) (12884901888 * 2 ^ 90) (vector_total second)
+        (vector_total-size (2 ^ 90) second
+        (All-map (Within (2 ^ 90)) (pull_at node) near
+        (All-map (λ part. Within (2 ^ 90) (pull_at node part)) (barrier_contribution s.numbers places) (close_parts s places) (λ k d l. barrier-pull-size s.numbers places node _ (close_parts_may_push s places built pose k d l)))))
+        (omega (arith, length-map near (pull_at node), length-map (close_parts s places) (barrier_contribution s.numbers places), few_close_parts s places built))
+
+    free : Within (2 ^ 124) (vector_total (map (pull_at node) (contributions s frame places)))
     free =
-        within_more (length pulls * 2 ^ 92) (2 ^ 109) (vector_total pulls)
-        (vector_total-size (2 ^ 92) pulls (All-map (Within (2 ^ 92)) (pull_at node) (contributions s frame places) (λ k d l. pull_at-size node _ (all_faint s frame places k d l))))
-        (omega (arith, length-map (contributions s frame places) (pull_at node), many s frame places built))
+        subst (Within (2 ^ 124)) (sym (ap vector_total (map-append (pull_at node) (bodies s frame places) near) ∙ vector_total-append first second))
+        (within-sum (81920 * 2 ^ 92) (12884901888 * 2 ^ 90) (2 ^ 124) (vector_total first) (vector_total second) of_bodies of_barriers (lit≤ tt))
 
-    either : (fixed : Bool) → Within (2 ^ 109) (if fixed then origin else vector_total pulls)
+    either : (fixed : Bool) → Within (2 ^ 124) (if fixed then origin else vector_total (map (pull_at node) (contributions s frame places)))
     either true = record { x = record { bound = omega arith }; y = record { bound = omega arith }; z = record { bound = omega arith } }
     either false = free
 
 -- each number of a gradient is
-pub gradient_is_small : (s : Setup) (frame : FrameTerms) (places : List V3) → IsSetup s → All (AtMost (2 ^ 109)) (gradient s frame places)
-gradient_is_small s frame places built = joined (node_positions s.mesh)
+pub gradient_is_small : (s : Setup) (frame : FrameTerms) (places : List V3) → IsSetup s → IsUpright s places → All (AtMost (2 ^ 124)) (gradient s frame places)
+gradient_is_small s frame places built pose = joined (node_positions s.mesh)
   where
-    three : (v : V3) → Within (2 ^ 109) v → All (AtMost (2 ^ 109)) (components v)
-    three v h = All-cons (AtMost (2 ^ 109)) v.x (v.y ∷ v.z ∷ []) h.x (All-cons (AtMost (2 ^ 109)) v.y (v.z ∷ []) h.y (All-cons (AtMost (2 ^ 109)) v.z [] h.z (All-nil (AtMost (2 ^ 109)))))
+    three : (v : V3) → Within (2 ^ 124) v → All (AtMost (2 ^ 124)) (components v)
+    three v h = All-cons (AtMost (2 ^ 124)) v.x (v.y ∷ v.z ∷ []) h.x (All-cons (AtMost (2 ^ 124)) v.y (v.z ∷ []) h.y (All-cons (AtMost (2 ^ 124)) v.z [] h.z (All-nil (AtMost (2 ^ 124)))))
 
-    joined : (nodes : List ℕ) → All (AtMost (2 ^ 109)) (flat_map (λ node. components (gradient_at s frame places node)) nodes)
-    joined [] = All-nil (AtMost (2 ^ 109))
+    joined : (nodes : List ℕ) → All (AtMost (2 ^ 124)) (flat_map (λ node. components (gradient_at s frame places node)) nodes)
+    joined [] = All-nil (AtMost (2 ^ 124))
     joined (node ∷ nodes) =
-        All-append (AtMost (2 ^ 109)) (components (gradient_at s frame places node)) (flat_map (λ n. components (gradient_at s frame places n)) nodes)
-        (three (gradient_at s frame places node) (gradient_at_is_small s frame places node built)) (joined nodes)
+        All-append (AtMost (2 ^ 124)) (components (gradient_at s frame places node)) (flat_map (λ n. components (gradient_at s frame places n)) nodes)
+        (three (gradient_at s frame places node) (gradient_at_is_small s frame places node built pose)) (joined nodes)
 
 -- ---- the diagonal
 pub length-diagonal : (s : Setup) (frame : FrameTerms) (places : List V3) → length (diagonal s frame places) ≡ 3 * length s.mesh.numbers

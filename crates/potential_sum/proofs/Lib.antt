@@ -1,5 +1,6 @@
 pub mod Energies
 pub mod Gradients
+pub mod HeldParts
 pub mod KeptTerms
 pub mod Lightness
 pub mod Parts

@@ -1,5 +1,5 @@
 -- How great sums of pulls are.
-use Rattle.std.proofs.Common.{◌≡◌, ℕ, suc, ◌+◌, ◌*◌, ◌^◌, ◌≤◌, pos, List, [], ◌∷◌, length, set, get_or, take, replicate, refl, subst, sym, arith}
+use Rattle.std.proofs.Common.{◌≡◌, ℕ, suc, ◌+◌, ◌-◌, ◌*◌, ◌^◌, ◌≤◌, pos, List, [], ◌∷◌, length, set, get_or, take, replicate, refl, subst, sym, arith}
 use Rattle.std.specs.Prelude.{All}
 use Rattle.std.proofs.lemmas.List.{length-take}
 use Rattle.std.proofs.lemmas.List.Elements.{All-head, All-replicate, All-tail, All-set, All-take, All-weaker}
@@ -42,12 +42,13 @@ with_pulls-light most sums (p ∷ ps) h k =
     count m l = omega arith
 
 -- while at most four pulls are added, each sum stays small
-pub light_at : (sums now : List W3) (pulls : List Pull) (i node : ℕ) → length pulls ≤ 4 → All IsWeak pulls → AreLight (2 ^ 120) sums → now ≡ with_pulls sums (take i pulls) → IsLight (2 ^ 125) (get_or now node nothing)
+pub light_at : (sums now : List W3) (pulls : List Pull) (i node : ℕ) → length pulls ≤ 4 → All IsWeak pulls → AreLight (2 ^ 126 - 2 ^ 92) sums → now ≡ with_pulls sums (take i pulls) → IsLight (2 ^ 126) (get_or now node nothing)
 light_at sums now pulls i node few weak small e =
-    within_more (2 ^ 120 + length (take i pulls) * 2 ^ 90) (2 ^ 125) _
-    (at_any (IsLight (2 ^ 120 + length (take i pulls) * 2 ^ 90)) now node nothing
-    (subst (AreLight (2 ^ 120 + length (take i pulls) * 2 ^ 90)) (sym e) (with_pulls-light (2 ^ 120) sums (take i pulls) (All-take IsWeak i pulls weak) small))
-    (none (2 ^ 120 + length (take i pulls) * 2 ^ 90)))
+    let most : ℕ = 2 ^ 126 - 2 ^ 92 in
+    within_more (most + length (take i pulls) * 2 ^ 90) (2 ^ 126) _
+    (at_any (IsLight (most + length (take i pulls) * 2 ^ 90)) now node nothing
+    (subst (AreLight (most + length (take i pulls) * 2 ^ 90)) (sym e) (with_pulls-light most sums (take i pulls) (All-take IsWeak i pulls weak) small))
+    (none (most + length (take i pulls) * 2 ^ 90)))
     (omega (arith, length-take i pulls))
 
 -- at most four pulls, none of them strong
@@ -70,11 +71,11 @@ with_parts-light q most sums (p ∷ ps) h k =
     four : (m l : ℕ) → l ≤ 4 → m + l * 2 ^ 90 ≤ m + 2 ^ 92
     four m l h = omega arith
 
--- while the pulls of all tetrahedra or nodes are added, each sum stays small
-pub parts_light : (q : Quantity) (sums now : List W3) (parts : List Contribution) → length parts ≤ 65536 → All (IsSmall q) parts → AreLight (2 ^ 118) sums → now ≡ with_parts q sums parts → AreLight (2 ^ 120) now
-parts_light q sums now parts few small light e =
-    lighter (2 ^ 118 + length parts * 2 ^ 92) (2 ^ 120) now (omega (arith, few))
-    (subst (AreLight (2 ^ 118 + length parts * 2 ^ 92)) (sym e) (with_parts-light q (2 ^ 118) sums parts small light))
+-- while the pulls of so many contributions are added, each sum stays small
+pub parts_light : (q : Quantity) (most bound : ℕ) (sums now : List W3) (parts : List Contribution) → most + length parts * 2 ^ 92 ≤ bound → All (IsSmall q) parts → AreLight most sums → now ≡ with_parts q sums parts → AreLight bound now
+parts_light q most bound sums now parts few small light e =
+    lighter (most + length parts * 2 ^ 92) bound now few
+    (subst (AreLight (most + length parts * 2 ^ 92)) (sym e) (with_parts-light q most sums parts small light))
 
 -- the sums of nothing, and those of inertia
 pub none_light : (count : ℕ) (sums : List W3) → sums ≡ replicate count nothing → AreLight 0 sums

@@ -1,5 +1,5 @@
 -- The pulls of contributions: how many, how great, and at which nodes.
-use Rattle.std.proofs.Common.{◌≡◌, ℕ, ◌^◌, ◌<◌, ◌≤◌, ℤ, pos, ◌+ℤ◌, ◌*ℤ◌, neg_ℤ, List, [], ◌∷◌, length, map, get_or, refl, arith, lit≤}
+use Rattle.std.proofs.Common.{◌≡◌, ℕ, ◌^◌, ◌<◌, ◌≤◌, ℤ, pos, ◌+ℤ◌, ◌*ℤ◌, neg_ℤ, List, [], ◌∷◌, ◌++◌, length, length-append, map, get_or, refl, arith, lit≤, ◌⊎◌, inl, inr}
 use Rattle.std.specs.Prelude.{All, zip}
 use Rattle.std.specs.List.{range_with_len}
 use Rattle.std.proofs.lemmas.List.{length-map}
@@ -17,13 +17,21 @@ use Rattle.neo_hooke.specs.Block.{block_at, elastic_block, log_slopes, stretch_e
 use Rattle.neo_hooke.specs.Gradient.{balance_of, elastic_gradient, elastic_pulls, pressure, pulls_of as node_pulls}
 use Rattle.neo_hooke.specs.Rest.{RestShape, edge_matrix}
 use Rattle.neo_hooke.specs.Strain.{log_volume, strain_gradient}
+use Rattle.safe_motion.specs.Safety.{PartPair}
+use Rattle.surface_mesh.specs.declared.materials.Numbers.{Numbers}
+use Rattle.nearest.specs.SignedWeights.{signed_sum, signed_weights}
+use Rattle.near_pair.specs.Answers.{near_between}
+use Rattle.barrier_term.specs.Barrier.{barrier_slope, if_active}
+use Rattle.barrier_term.specs.Blocks.{barrier_block, entries, lever, stiffness_at}
+use Rattle.barrier_term.specs.Gradients.{pull_at as barrier_pull_at}
 use Rattle.potential_sum.specs.declared.pulls.Quantity.{Quantity}
 use Rattle.potential_sum.specs.declared.pulls.Quantity.TheVariants as quantities
 use Rattle.potential_sum.specs.Bodies.{ElasticTet, corners_at}
+use Rattle.potential_sum.specs.Calls.Barriers.{AreFour, MayPush}
 use Rattle.potential_sum.specs.Calls.Inertia.{part_at, pull_of}
 use Rattle.potential_sum.specs.Calls.Kept.{MayStand}
 use Rattle.potential_sum.specs.Calls.Sums.{as_pull, vectors_of}
-use Rattle.potential_sum.specs.Contributions.{diagonal_of, elastic_contribution}
+use Rattle.potential_sum.specs.Contributions.{barrier_contribution, diagonal_of, elastic_contribution}
 use Rattle.potential_sum.proofs.Energies.{cut-small}
 use Rattle.potential_sum.proofs.Lightness.{IsSmall, IsWeak}
 use Rattle.potential_sum.proofs.PullSums.{IsInside}
@@ -143,14 +151,57 @@ pub elastic-diagonals-weak : (x : List V3) (tet : ElasticTet) → All (Within (2
 elastic-diagonals-weak x tet = All-map (Within (2 ^ 90)) (λ (i : ℕ). diagonal_of (elastic_block tet.rest tet.mu tet.lambda (corners_at x tet.nodes) i i)) (0 ∷ 1 ∷ 2 ∷ 3 ∷ []) (λ k d l. block-stiff tet.rest tet.mu tet.lambda (corners_at x tet.nodes) _)
 
 -- at most four vectors, none of them strong
-four_small : (nodes : List ℕ) (vectors : List V3) → length vectors ≡ 4 → All (Within (2 ^ 90)) vectors → length (map as_pull (zip nodes vectors)) ≤ 4 × All IsWeak (map as_pull (zip nodes vectors))
-four_small nodes vectors e h = (omega (arith, length-map (zip nodes vectors) as_pull, length-zip nodes vectors), All-map IsWeak as_pull (zip nodes vectors) (All-zip_right (Within (2 ^ 90)) nodes vectors h))
+four_small : (nodes : List ℕ) (vectors : List V3) → length nodes ≤ 4 ⊎ length vectors ≤ 4 → All (Within (2 ^ 90)) vectors → length (map as_pull (zip nodes vectors)) ≤ 4 × All IsWeak (map as_pull (zip nodes vectors))
+four_small nodes vectors e h = (few e, All-map IsWeak as_pull (zip nodes vectors) (All-zip_right (Within (2 ^ 90)) nodes vectors h))
+  where
+    few : length nodes ≤ 4 ⊎ length vectors ≤ 4 → length (map as_pull (zip nodes vectors)) ≤ 4
+    few (inl l) = omega (arith, length-map (zip nodes vectors) as_pull, length-zip nodes vectors)
+    few (inr l) = omega (arith, length-map (zip nodes vectors) as_pull, length-zip nodes vectors)
 
 pub elastic-part-small : (q : Quantity) (x : List V3) (tet : ElasticTet) → IsSmall q (elastic_contribution x tet)
 elastic-part-small quantities.Pull x tet =
-    let small = four_small tet.nodes (elastic_contribution x tet).pulls refl (elastic-pulls-weak x tet) in record { few = small.0; weak = small.1 }
+    let small = four_small tet.nodes (elastic_contribution x tet).pulls (inr (lit≤ tt)) (elastic-pulls-weak x tet) in record { few = small.0; weak = small.1 }
 elastic-part-small quantities.Stiffness x tet =
-    let small = four_small tet.nodes (elastic_contribution x tet).diagonals refl (elastic-diagonals-weak x tet) in record { few = small.0; weak = small.1 }
+    let small = four_small tet.nodes (elastic_contribution x tet).diagonals (inr (lit≤ tt)) (elastic-diagonals-weak x tet) in record { few = small.0; weak = small.1 }
 
 pub elastic-part-inside : (q : Quantity) (x : List V3) (tet : ElasticTet) → MayStand x tet → IsInside q (length x) (elastic_contribution x tet)
 elastic-part-inside q x tet h = All-zip_left (λ node. node < length x) tet.nodes (vectors_of q (elastic_contribution x tet)) h.there
+
+-- ---- barriers
+pub barrier-pulls-weak : (numbers : Numbers) (x : List V3) (parts : PartPair) → All (Within (2 ^ 90)) (barrier_contribution numbers x parts).pulls
+barrier-pulls-weak numbers x parts =
+    let first = map (place_of x) parts.left in
+    let second = map (place_of x) parts.right in
+    let near = near_between first second in
+    let signed = signed_weights (length parts.left) near.weights in
+    let slope = barrier_slope numbers.kappa numbers.dhat near in
+    let way = signed_sum signed (first ++ second) in
+    All-map (Within (2 ^ 90)) (barrier_pull_at slope way) signed (λ k d l.
+    let weight = get_or signed k d in
+    cut_vector (floor_of (slope *ℤ weight *ℤ way.x) (pos (2 ^ 39))) (floor_of (slope *ℤ weight *ℤ way.y) (pos (2 ^ 39))) (floor_of (slope *ℤ weight *ℤ way.z) (pos (2 ^ 39))))
+
+barrier-stiff : (stiffness : ℤ) (a : V3) → Within (2 ^ 90) (diagonal_of (entries stiffness a a))
+barrier-stiff stiffness a = cut_diagonal (floor_of (stiffness *ℤ a.x *ℤ a.x) (pos (2 ^ 22))) (floor_of (stiffness *ℤ a.y *ℤ a.y) (pos (2 ^ 22))) (floor_of (stiffness *ℤ a.z *ℤ a.z) (pos (2 ^ 22)))
+
+pub barrier-diagonals-weak : (numbers : Numbers) (x : List V3) (parts : PartPair) → All (Within (2 ^ 90)) (barrier_contribution numbers x parts).diagonals
+barrier-diagonals-weak numbers x parts =
+    let first = map (place_of x) parts.left in
+    let second = map (place_of x) parts.right in
+    let near = near_between first second in
+    let signed = signed_weights (length parts.left) near.weights in
+    let way = signed_sum signed (first ++ second) in
+    All-map (Within (2 ^ 90)) (λ (i : ℕ). diagonal_of (barrier_block numbers.kappa numbers.dhat near (length parts.left) (first ++ second) i i)) (0 ∷ 1 ∷ 2 ∷ 3 ∷ [])
+    (λ k d l. barrier-stiff (if_active numbers.dhat near (stiffness_at numbers.kappa)) (lever way (get_or signed (get_or (0 ∷ 1 ∷ 2 ∷ 3 ∷ []) k d) (pos 0))))
+
+four_nodes : (parts : PartPair) → AreFour parts → length (parts.left ++ parts.right) ≤ 4
+four_nodes parts (inl h) = omega (arith, length-append parts.left parts.right, h.0, h.1)
+four_nodes parts (inr h) = omega (arith, length-append parts.left parts.right, h.0, h.1)
+
+pub barrier-part-small : (q : Quantity) (numbers : Numbers) (x : List V3) (parts : PartPair) → MayPush x parts → IsSmall q (barrier_contribution numbers x parts)
+barrier-part-small quantities.Pull numbers x parts h =
+    let small = four_small (parts.left ++ parts.right) (barrier_contribution numbers x parts).pulls (inl (four_nodes parts h.four)) (barrier-pulls-weak numbers x parts) in record { few = small.0; weak = small.1 }
+barrier-part-small quantities.Stiffness numbers x parts h =
+    let small = four_small (parts.left ++ parts.right) (barrier_contribution numbers x parts).diagonals (inl (four_nodes parts h.four)) (barrier-diagonals-weak numbers x parts) in record { few = small.0; weak = small.1 }
+
+pub barrier-part-inside : (q : Quantity) (numbers : Numbers) (x : List V3) (parts : PartPair) → MayPush x parts → IsInside q (length x) (barrier_contribution numbers x parts)
+barrier-part-inside q numbers x parts h = All-zip_left (λ node. node < length x) (parts.left ++ parts.right) (vectors_of q (barrier_contribution numbers x parts)) h.there

@@ -1,6 +1,6 @@
 -- Pulls that are added at their nodes, one after another, give the sum of all at each node.
-use Rattle.std.proofs.Common.{◌≡◌, ◌∙◌, ℕ, ◌<◌, ℤ, pos, ◌+ℤ◌, Bool, true, false, List, [], ◌∷◌, ◌++◌, map, set, get_or, length, take, drop, replicate, refl, ap, sym, subst, arith, append_assoc}
-use Rattle.std.specs.Prelude.{◌==◌, All, zip, if◌then◌else◌}
+use Rattle.std.proofs.Common.{◌≡◌, ◌∙◌, ℕ, ◌+◌, ◌<◌, ℤ, pos, ◌+ℤ◌, Bool, true, false, List, [], ◌∷◌, ◌++◌, map, set, get_or, length, take, drop, replicate, refl, ap, sym, subst, arith, append_assoc}
+use Rattle.std.specs.Prelude.{◌==◌, All, zip, slice_index, if◌then◌else◌}
 use Rattle.std.specs.List.{range_with_len}
 use Rattle.std.proofs.lemmas.Bool.{eq-eqb, ne_eqb}
 use Rattle.std.proofs.lemmas.Int.{ints}
@@ -10,9 +10,10 @@ use Rattle.std.proofs.Math.Seq.{take-append_seam}
 use Rattle.list_laws.proofs.CountedWrites.{get_or-counted, replicate-counted, set-counted}
 use Rattle.space3.specs.declared.vectors.V3.{V3}
 use Rattle.space3.specs.declared.vectors.W3.{W3}
-use Rattle.space3.specs.Vectors.{origin, vector, sum_of}
+use Rattle.space3.specs.Vectors.{Within, origin, vector, sum_of}
 use Rattle.potential_sum.specs.declared.pulls.Quantity.{Quantity}
-use Rattle.potential_sum.specs.Contributions.{Contribution, vector_total}
+use Rattle.potential_sum.specs.Calls.Barriers.{AreDifferent}
+use Rattle.potential_sum.specs.Contributions.{Contribution, sum_at, vector_total}
 use Rattle.potential_sum.specs.Calls.Sums.{as_pull, node_sums, nothing, pulls_of, vector_at, vectors_of, wide, wide_sum, with_parts, with_pulls}
 
 -- ---- sums of vectors
@@ -37,6 +38,10 @@ sum_of-assoc a b c = λ i. vector (each a.x b.x c.x i) (each a.y b.y c.y i) (eac
 vector_total-push : (vs : List V3) (v : V3) → vector_total (vs ++ v ∷ []) ≡ sum_of (vector_total vs) v
 vector_total-push [] v = sum_of-origin v ∙ sym (origin-sum_of v)
 vector_total-push (w ∷ ws) v = ap (sum_of w) (vector_total-push ws v) ∙ sym (sum_of-assoc w (vector_total ws) v)
+
+pub vector_total-append : (vs ws : List V3) → vector_total (vs ++ ws) ≡ sum_of (vector_total vs) (vector_total ws)
+vector_total-append [] ws = sym (origin-sum_of (vector_total ws))
+vector_total-append (v ∷ vs) ws = ap (sum_of v) (vector_total-append vs ws) ∙ sym (sum_of-assoc v (vector_total vs) (vector_total ws))
 
 map-push : {X Y : Type 0} (f : X → Y) (xs : List X) (x : X) → map f (xs ++ x ∷ []) ≡ map f xs ++ f x ∷ []
 map-push f [] x = refl
@@ -114,3 +119,33 @@ length-node_sums q count parts = length-map-range_with_len (λ node. wide (vecto
 -- a whole list that is written back
 pub written_back : (now old : List W3) (count : ℕ) → length now ≡ count → take count (now ++ drop (length now) old) ≡ now
 written_back now old count e = subst (λ (n : ℕ). take n (now ++ drop (length now) old) ≡ now) e (take-append_seam now (drop (length now) old))
+
+-- ---- of nodes that differ one at most is this node
+none_at : (k : ℕ) (nodes : List ℕ) (vs : List V3) → All (λ node. ¬ (node ≡ k)) nodes → sum_at k nodes vs ≡ origin
+none_at k [] vs h = refl
+none_at k (node ∷ nodes) [] h = refl
+none_at k (node ∷ nodes) (v ∷ vs) h =
+    (λ i. sum_of (passed (node == k) v (ne_eqb node k (All-head (λ n. ¬ (n ≡ k)) node nodes h)) i) (none_at k nodes vs (All-tail (λ n. ¬ (n ≡ k)) node nodes h) i))
+    ∙ sum_of-origin origin
+
+differ_from : (node : ℕ) (nodes : List ℕ) → AreDifferent (node ∷ nodes) → All (λ n. ¬ (n ≡ node)) nodes
+differ_from node nodes h = λ k d l e. h.each 0 (k + 1) (omega arith) (omega (arith, l)) (sym e ∙ get_or-same nodes k d l)
+  where
+    get_or-same : (ns : List ℕ) (k d : ℕ) → k < length ns → get_or ns k d ≡ slice_index ns k
+    get_or-same ns k d l = 0
+
+differ_after : (node : ℕ) (nodes : List ℕ) → AreDifferent (node ∷ nodes) → AreDifferent nodes
+differ_after node nodes h = record { each = λ i j l m. h.each (i + 1) (j + 1) (omega (arith, l)) (omega (arith, m)) }
+
+pub once-size : (most k : ℕ) (nodes : List ℕ) (vs : List V3) → AreDifferent nodes → All (Within most) vs → Within most (sum_at k nodes vs)
+once-size most k [] vs h w = record { x = record { bound = omega arith }; y = record { bound = omega arith }; z = record { bound = omega arith } }
+once-size most k (node ∷ nodes) [] h w = record { x = record { bound = omega arith }; y = record { bound = omega arith }; z = record { bound = omega arith } }
+once-size most k (node ∷ nodes) (v ∷ vs) h w = either (node == k) refl
+  where
+    either : (b : Bool) → (node == k) ≡ b → Within most (sum_at k (node ∷ nodes) (v ∷ vs))
+    either true e =
+        subst (Within most) (sym ((λ i. sum_of (chosen (node == k) v e i) (none_at k nodes vs (rw (← eqb-eq node k e) at differ_from node nodes h) i)) ∙ sum_of-origin v))
+        (All-head (Within most) v vs w)
+    either false e =
+        subst (Within most) (sym ((λ i. sum_of (passed (node == k) v e i) (sum_at k nodes vs)) ∙ origin-sum_of (sum_at k nodes vs)))
+        (once-size most k nodes vs (differ_after node nodes h) (All-tail (Within most) v vs w))

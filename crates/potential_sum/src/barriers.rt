@@ -16,7 +16,7 @@ ghost use Rattle.potential_sum.specs.Contributions.{barrier_contribution, diagon
 ghost use Rattle.potential_sum.specs.Upright.{IsUpright};
 
 use crate::bodies::corners_at;
-use crate::pulls::{Pull, Quantity, add_pulls, pull_at};
+use crate::pulls::{Pull, Quantity, add_pulls, diagonal_of, pull_at};
 use barrier_term::{barrier_block, barrier_energy, barrier_gradient};
 use boundary::{Pair, Surface};
 use broad_grid::{PairList, close_pairs};
@@ -136,7 +136,7 @@ impl TwoParts {
             numbers.now.dhat near.now self.now.split points.now i i)) }
     {
         let block = barrier_block(numbers.kappa, numbers.dhat, near, self.split, points, i, i);
-        [block[0][0], block[1][1], block[2][2]]
+        diagonal_of(block)
     }
 }
 

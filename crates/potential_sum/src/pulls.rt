@@ -1,10 +1,12 @@
 //! Sums of vectors at nodes, one for each node.
-ghost use Rattle.std.specs.Prelude.{◌≡◌, ◌<◌, ◌≤◌, ◌^◌, ◌+ℤ◌, IfOk, All, map, length, slice_index_or, false, flat_map};
+ghost use Rattle.std.specs.Prelude.{◌≡◌, ◌<◌, ◌≤◌, ◌^◌, ◌-◌, ◌+ℤ◌, IfOk, All, map, length, slice_index_or, false, flat_map};
 ghost use Rattle.std.specs.List.{range_with_len};
 ghost use Rattle.space3.specs.Vectors.{AtMost, Within};
 ghost use Rattle.space3.specs.Wide.{unbounded};
 ghost use Rattle.num_q.specs.Rounding.{cut_of};
-ghost use Rattle.vec_q.specs.Rows.{vector_of};
+ghost use Rattle.vec_q.specs.Matrices.{M3};
+ghost use Rattle.vec_q.specs.Rows.{components, rows_of, vector_of};
+ghost use Rattle.potential_sum.specs.Contributions.{diagonal_of};
 ghost use Rattle.potential_sum.specs.declared.pulls.Quantity.TheVariants as quantities;
 ghost use Rattle.potential_sum.specs.Calls.Sums.{AreLight, as_pull, nothing, numbers_of, wide_sum, with_pulls};
 
@@ -37,6 +39,13 @@ pub(crate) fn pull_at(node: u32, force: [i128; 3]) -> Pull
             z: force[2],
         },
     }
+}
+
+/// The diagonal of a matrix of three rows.
+pub(crate) fn diagonal_of(rows: [[i128; 3]; 3]) -> [i128; 3]
+    ensures { (m : M3) → rows ≡ rows_of m → result ≡ components (diagonal_of m) }
+{
+    [rows[0][0], rows[1][1], rows[2][2]]
 }
 
 /// Adds each of these pulls to the sum at its node.

@@ -1,14 +1,19 @@
 -- Parts of the surface between which there may be a barrier.
-use Rattle.std.specs.Prelude.{◌≡◌, ℕ, ◌<◌, ◌⊎◌, List, ◌++◌, length, map, take, drop, slice_index}
+use Rattle.std.specs.Prelude.{◌≡◌, ℕ, ◌<◌, ◌⊎◌, List, [], ◌∷◌, ◌++◌, length, map, take, drop, slice_index}
 use Rattle.space3.specs.declared.vectors.V3.{V3}
 use Rattle.space3.specs.Mesh.{HasNodes, place_of}
 use Rattle.safe_motion.specs.Safety.{PartPair}
 use Rattle.boundary.specs.declared.pairs.Pair.{Pair}
 use Rattle.boundary.specs.Pairs.{IsPair, part_pair}
+use Rattle.surface_mesh.specs.declared.materials.Numbers.{Numbers}
 use Rattle.surface_mesh.specs.declared.setup.Setup.{Setup}
 use Rattle.nearest.specs.Close.{AreClose}
+use Rattle.near_pair.specs.declared.near.Near.{Near}
+use Rattle.barrier_term.specs.Barrier.{barrier_energy}
+use Rattle.barrier_term.specs.Blocks.{barrier_block}
+use Rattle.barrier_term.specs.Gradients.{barrier_gradient}
 use Rattle.potential_sum.specs.declared.barriers.TwoParts.{TwoParts}
-use Rattle.potential_sum.specs.Contributions.{Contribution, barrier_contribution}
+use Rattle.potential_sum.specs.Contributions.{Contribution, barrier_contribution, diagonal_of}
 
 -- one node and three, or two and two
 abbrev pub AreFour : PartPair → Type 0
@@ -37,3 +42,12 @@ pub record IsClosePair (setup : Setup) (places : List V3) (pair : Pair) : Type 0
 -- the barrier of a pair
 abbrev pub barrier_at : Setup → (places : List V3) → Pair → Contribution
 barrier_at setup places pair = barrier_contribution setup.numbers places (part_pair setup.surface pair)
+
+-- the barrier between four points at these nodes, of which the first part has `split`, by their nearest points
+abbrev pub barrier_of : Numbers → (nodes : List ℕ) → (split : ℕ) → (points : List V3) → Near → Contribution
+barrier_of numbers nodes split points near = record {
+  nodes = nodes;
+  energy = barrier_energy numbers.kappa numbers.dhat near;
+  pulls = barrier_gradient numbers.kappa numbers.dhat near split points;
+  diagonals = map (λ (i : ℕ). diagonal_of (barrier_block numbers.kappa numbers.dhat near split points i i)) (0 ∷ 1 ∷ 2 ∷ 3 ∷ []);
+}

@@ -15,7 +15,7 @@ pub add_pulls-requires-clause-small : goal.add_pulls-requires-clause-small
 add_pulls-requires-clause-small c =
     let f : Body → Contribution = λ body. elastic_contribution c.args.x.now (elastic_in body) in
     let done = take c.loop-body.body-index c.args.bodies.now in
-    parts_light c.args.quantity c.args.sums.now c.loop-body.sums (map f done) (omega (arith, length-map done f, length-take c.loop-body.body-index c.args.bodies.now, c.requires.few))
+    parts_light c.args.quantity (2 ^ 118) (2 ^ 126 - 2 ^ 92) c.args.sums.now c.loop-body.sums (map f done) (omega (arith, length-map done f, length-take c.loop-body.body-index c.args.bodies.now, c.requires.few))
     (All-map (IsSmall c.args.quantity) f done (λ k d l. elastic-part-small c.args.quantity c.args.x.now (elastic_in (get_or done k d)))) c.requires.small c.loop-body.invariant
 
 pub add_pulls-requires-clause-pulls : goal.add_pulls-requires-clause-pulls

@@ -1,0 +1,48 @@
+use Rattle.std.proofs.Common.{◌≡◌, ◌∙◌, ◌<◌, ◌-◌, ◌^◌, length, map, take, get_or, ap, subst, sym, arith}
+use Rattle.std.specs.Prelude.{All, zip}
+use Rattle.std.proofs.lemmas.List.{length-map, length-take, map_more}
+use Rattle.std.proofs.lemmas.List.Elements.{All-map, All-take}
+use Rattle.boundary.specs.declared.pairs.Pair.{Pair}
+use Rattle.boundary.specs.declared.pairs.PairKind.TheVariants as kinds
+use Rattle.boundary.specs.Pairs.{part_pair}
+use Rattle.potential_sum.specs.declared.pulls.Pull.{Pull}
+use Rattle.potential_sum.specs.Calls.Barriers.{IsClosePair, MayPush, barrier_at, parts_in}
+use Rattle.potential_sum.specs.Calls.Sums.{as_pull, pulls_of, vectors_of, with_parts, with_pulls}
+use Rattle.potential_sum.specs.Contributions.{Contribution, barrier_contribution}
+use Rattle.potential_sum.proofs.HeldParts.{held_pair}
+use Rattle.potential_sum.proofs.Lightness.{IsSmall, IsWeak, parts_light}
+use Rattle.potential_sum.proofs.Parts.{barrier-part-inside, barrier-part-small}
+use Rattle.potential_sum.proofs.PullSums.{with_parts-push}
+use Rattle.potential_sum.proofs.barriers.add_barrier_vectors.Goals as goal
+
+pub vectors-requires-clause-close : goal.vectors-requires-clause-close
+vectors-requires-clause-close c = held_pair c.args.setup.now c.args.x.now c.args.pairs.now c.parts_of-parts.result c.loop-pair.pair-index _ c.requires.close c.loop-pair-test.true c.parts_of-parts.ensures
+
+pub add_pulls-requires-clause-there : goal.add_pulls-requires-clause-there
+add_pulls-requires-clause-there c =
+    let parts = parts_in c.parts_of-parts.result in
+    let part = barrier_contribution c.args.setup.now.numbers c.args.x.now parts in
+    let long : length c.loop-pair.sums ≡ length c.args.x.now = c.loop-pair.auto.sums ∙ c.requires.nodes in
+    subst (All (λ (pull : Pull). pull.node < length c.loop-pair.sums)) (sym c.vectors.ensures)
+    (All-map (λ (pull : Pull). pull.node < length c.loop-pair.sums) as_pull (zip part.nodes (vectors_of c.args.quantity part))
+    (rw long at (barrier-part-inside c.args.quantity c.args.setup.now.numbers c.args.x.now parts (held_pair c.args.setup.now c.args.x.now c.args.pairs.now c.parts_of-parts.result c.loop-pair.pair-index _ c.requires.close c.loop-pair-test.true c.parts_of-parts.ensures))))
+
+pub add_pulls-requires-clause-small : goal.add_pulls-requires-clause-small
+add_pulls-requires-clause-small c =
+    let f = barrier_at c.args.setup.now c.args.x.now in
+    let done = take c.loop-pair.pair-index c.args.pairs.now in
+    parts_light c.args.quantity (2 ^ 120) (2 ^ 126 - 2 ^ 92) c.args.sums.now c.loop-pair.sums (map f done) (omega (arith, length-map done f, length-take c.loop-pair.pair-index c.args.pairs.now, c.requires.few))
+    (All-map (IsSmall c.args.quantity) f done (λ k d l. barrier-part-small c.args.quantity c.args.setup.now.numbers c.args.x.now (part_pair c.args.setup.now.surface (get_or done k d)) (All-take (IsClosePair c.args.setup.now c.args.x.now) c.loop-pair.pair-index c.args.pairs.now c.requires.close k d l).close))
+    c.requires.small c.loop-pair.invariant
+
+pub add_pulls-requires-clause-pulls : goal.add_pulls-requires-clause-pulls
+add_pulls-requires-clause-pulls c = subst (All IsWeak) (sym c.vectors.ensures) (barrier-part-small c.args.quantity c.args.setup.now.numbers c.args.x.now (parts_in c.parts_of-parts.result) (held_pair c.args.setup.now c.args.x.now c.args.pairs.now c.parts_of-parts.result c.loop-pair.pair-index _ c.requires.close c.loop-pair-test.true c.parts_of-parts.ensures)).weak
+
+pub loop-pair-preserved : goal.loop-pair-preserved
+loop-pair-preserved c =
+    let f : Pair → Contribution = barrier_at c.args.setup.now c.args.x.now in
+    let i = c.loop-pair.pair-index in
+    let none : Pair = record { kind = kinds.VE; a = 0; b = 0 } in
+    c.add_pulls.ensures ∙ (λ t. with_pulls (c.loop-pair.invariant t) ((c.vectors.ensures ∙ ap (λ parts. pulls_of c.args.quantity (barrier_contribution c.args.setup.now.numbers c.args.x.now parts)) c.parts_of-parts.ensures) t))
+    ∙ sym (with_parts-push c.args.quantity c.args.sums.now (map f (take i c.args.pairs.now)) (f (get_or c.args.pairs.now i none)))
+    ∙ ap (with_parts c.args.quantity c.args.sums.now) (sym (map_more f c.args.pairs.now i none c.loop-pair-test.true))
