@@ -1,5 +1,5 @@
 -- Parts of the surface between which there may be a barrier.
-use Rattle.std.specs.Prelude.{◌≡◌, ℕ, ◌<◌, ◌⊎◌, ◌×◌, List, ◌++◌, length, map, slice_index}
+use Rattle.std.specs.Prelude.{◌≡◌, ℕ, ◌<◌, ◌⊎◌, List, ◌++◌, length, map, slice_index}
 use Rattle.space3.specs.declared.vectors.V3.{V3}
 use Rattle.space3.specs.Mesh.{HasNodes, place_of}
 use Rattle.safe_motion.specs.Safety.{PartPair}
