@@ -1,6 +1,6 @@
 -- Close parts may push each other, and there are not too many.
-use Rattle.std.proofs.Common.{◌≡◌, ◌∙◌, ℕ, ◌+◌, ◌*◌, ◌<◌, ◌≤◌, ℤ, pos, ◌≤ℤ◌, Bool, true, false, List, [], ◌∷◌, ◌++◌, map, length, get_or, unsigned_abs, inl, inr, mul-le-mul, refl, sym, subst, arith}
-use Rattle.std.specs.Prelude.{All, IsTrue, ◌&&◌}
+use Rattle.std.proofs.Common.{◌≡◌, ◌∙◌, ℕ, ◌+◌, ◌*◌, ◌<◌, ◌≤◌, ℤ, pos, ◌≤ℤ◌, true, List, [], ◌∷◌, map, length, unsigned_abs, inl, inr, mul-le-mul, sym, subst, arith}
+use Rattle.std.specs.Prelude.{All}
 use Rattle.std.specs.List.{Contains}
 use Rattle.std.proofs.lemmas.Bool.{and_parts}
 use Rattle.std.proofs.lemmas.Int.{ints}
@@ -10,13 +10,13 @@ use Rattle.list_laws.proofs.Membership.{Contains-from_filter}
 use Rattle.space3.specs.declared.lists.Tet.{Tet}
 use Rattle.space3.specs.declared.vectors.V3.{V3}
 use Rattle.space3.specs.Boxes.{are_within, box_of}
-use Rattle.space3.specs.Mesh.{HasNodes, IsSound, IsSoundTet, place_of}
+use Rattle.space3.specs.Mesh.{HasNodes, IsSoundTet, place_of}
 use Rattle.boundary.specs.declared.pairs.Pair.{Pair}
 use Rattle.boundary.specs.declared.pairs.PairKind.{PairKind}
 use Rattle.boundary.specs.declared.pairs.PairKind.TheVariants.{VE, VT, EE, ET}
 use Rattle.boundary.specs.Calls.Parts.{IsPart}
 use Rattle.boundary.specs.Pairs.{IsPair, first_parts, pairs_of, part_pair, second_parts}
-use Rattle.boundary.specs.Surface.{AreSurfaceLists, SurfaceLists}
+use Rattle.boundary.specs.Surface.{SurfaceLists}
 use Rattle.boundary.proofs.PairNodes.{nodes_differ}
 use Rattle.boundary.proofs.PairOrder.{pairs_sorted}
 use Rattle.boundary.proofs.SidesOfTets.{IsSide, first_is_side, first_size, second_is_side, second_size}
@@ -26,10 +26,10 @@ use Rattle.broad_grid.proofs.CloseCounts.{few_close_pairs}
 use Rattle.surface_mesh.specs.declared.setup.Setup.{Setup}
 use Rattle.surface_mesh.specs.Setup.{IsSetup}
 use Rattle.surface_mesh.proofs.ShortEdges.{corners_are_near, some_are_near}
-use Rattle.nearest.specs.declared.limits.TheConstants.{EDGE_LIMIT, GAP_LIMIT}
-use Rattle.nearest.specs.Close.{AreClose, HasShortEdges}
+use Rattle.nearest.specs.declared.limits.TheConstants.{EDGE_LIMIT}
+use Rattle.nearest.specs.Close.{HasShortEdges}
 use Rattle.nearest.proofs.CloseParts.{close_by}
-use Rattle.potential_sum.specs.Calls.Barriers.{AreDifferent, AreFour, MayPush}
+use Rattle.potential_sum.specs.Calls.Barriers.{AreFour, MayPush}
 use Rattle.potential_sum.specs.Contributions.{close_parts}
 use Rattle.potential_sum.specs.Upright.{IsUpright}
 use Rattle.potential_sum.specs.Upright as upright
