@@ -1,4 +1,5 @@
 pub mod Activity
+pub mod Beyond
 pub mod Examples
 pub mod Falling
 pub mod Pulls

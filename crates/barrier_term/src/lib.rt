@@ -12,4 +12,7 @@ pub use active::MOST_STIFFNESS;
 pub use block::barrier_block;
 pub use energy::{barrier_energy, barrier_slope};
 pub use gradient::barrier_gradient;
-pub use laws::{energy_falls_with_the_distance, example_over_a_triangle};
+pub use laws::{
+    barrier_is_nothing_beyond_dhat, energy_falls_with_the_distance, example_over_a_triangle,
+    far_boxes_are_beyond_dhat,
+};

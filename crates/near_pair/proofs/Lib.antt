@@ -1,5 +1,6 @@
 pub mod Answered
 pub mod Choosing
+pub mod FarPairs
 pub mod Reach
 pub mod SumsOfWays
 pub mod TurnedWeights

@@ -1,5 +1,5 @@
 -- What the nearest points are said to be.
-use Rattle.std.specs.Prelude.{◌≡◌, ℕ, ◌<◌, ◌*◌, ◌/◌, ◌^◌, pos, List, [], ◌∷◌, take, drop, max, unsigned_abs, ◌⊎◌, Option, Some, None}
+use Rattle.std.specs.Prelude.{◌≡◌, ℕ, ◌<◌, ◌*◌, ◌/◌, ◌^◌, pos, List, [], ◌∷◌, length, take, drop, max, unsigned_abs, ◌⊎◌, Option, Some, None}
 use Rattle.space3.specs.declared.vectors.V3.{V3}
 use Rattle.nearest.specs.Candidates.{Candidate, IsFirstLeast, nearest_in}
 use Rattle.nearest.specs.Close.{AreClose}
@@ -44,6 +44,10 @@ squared_distance near = max 1 (256 * near.num / near.den)
 abbrev pub near_by : Option Candidate → Near
 near_by (Some k) = record { num = unsigned_abs k.num; den = unsigned_abs k.den; weights = rounded_weights k }
 near_by None = record { num = 0; den = 1; weights = [] }
+
+-- a point and a triangle, or two edges
+abbrev pub AreFourPoints : List V3 → List V3 → Type 0
+AreFourPoints first second = (length first ≡ 1 × length second ≡ 3) ⊎ (length first ≡ 2 × length second ≡ 2)
 
 -- the nearest points of a point and a triangle, or of two edges
 abbrev pub near_between : List V3 → List V3 → Near

@@ -31,12 +31,12 @@ weight_said : (weight : Option ℤ) → is_positive_if_listed weight ≡ true �
 weight_said None e = tt
 weight_said (Some weight) e = positive_said weight e
 
-valid_tested : (k : Candidate) → IsValid k → is_valid k ≡ true
+pub valid_tested : (k : Candidate) → IsValid k → is_valid k ≡ true
 valid_tested k valid = and_from (int_lt (pos 0) k.den) _ (positive_tested k.den valid.divisor)
     (list_all-from_AllPass is_positive_if_listed (k.left ++ k.right)
     (All-weaker IsPositiveIfListed (λ weight. is_positive_if_listed weight ≡ true) weight_tested (k.left ++ k.right) valid.weights))
 
-valid_said : (k : Candidate) → is_valid k ≡ true → IsValid k
+pub valid_said : (k : Candidate) → is_valid k ≡ true → IsValid k
 valid_said k e = let both = and_parts (int_lt (pos 0) k.den) _ e in record {
   divisor = positive_said k.den both.0;
   weights = all_pass is_positive_if_listed IsPositiveIfListed weight_said (k.left ++ k.right) both.1;

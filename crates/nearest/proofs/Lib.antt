@@ -6,6 +6,7 @@ pub mod Coefficients
 pub mod EdgeBounds
 pub mod EdgesLaw
 pub mod Examples
+pub mod FarBoxes
 pub mod FirstFound
 pub mod FirstLeast
 pub mod FootLeads
@@ -15,6 +16,7 @@ pub mod OfPoints
 pub mod OneTaken
 pub mod Planes
 pub mod Segment
+pub mod SomeTaken
 pub mod TakenBounds
 pub mod TakenWeights
 pub mod TriangleBounds

@@ -61,6 +61,16 @@ pub fn one_is_taken()
         IsFirstLeast candidates j → k ≡ j }
 {}
 
+/// A point and a triangle have a first least candidate, also a triangle without an area.
+pub fn some_is_taken_of_triangle()
+    ensures { (p a b c : V3) → (k : Candidate) × IsFirstLeast (triangle_candidates p a b c) k }
+{}
+
+/// Two edges have a first least candidate, also edges without a length.
+pub fn some_is_taken_of_edges()
+    ensures { (a0 a1 b0 b1 : V3) → (k : Candidate) × IsFirstLeast (edges_candidates a0 a1 b0 b1) k }
+{}
+
 /// The first least candidate is the one that the search in a list finds.
 pub fn first_least_is_found()
     ensures { (candidates : List Candidate) (k : Candidate) → IsFirstLeast candidates k →

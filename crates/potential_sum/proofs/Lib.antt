@@ -1,3 +1,4 @@
+pub mod CloseParts
 pub mod Energies
 pub mod Gradients
 pub mod HeldParts

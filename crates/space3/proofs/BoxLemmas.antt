@@ -115,7 +115,7 @@ corners_keep_bound b p points h = (
     zs = All-map (AtMost b) (λ r. r.z) (p ∷ points) (All-weaker (Within b) (λ r. AtMost b r.z) (λ r k. k.z) (p ∷ points) h)
 
 -- ---- a gap and its two parts
-abbrev gap_within : ℕ → ℤ → ℤ → ℤ → ℤ → Bool
+abbrev pub gap_within : ℕ → ℤ → ℤ → ℤ → ℤ → Bool
 gap_within reach al ag bl bg = int_le (int_max (pos 0) (int_max (bl -ℤ ag) (al -ℤ bg))) (pos reach)
 
 tested : (g r : ℤ) → g ≤ℤ r → int_le g r ≡ true

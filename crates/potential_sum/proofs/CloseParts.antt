@@ -1,0 +1,108 @@
+-- Close parts may push each other, and there are not too many.
+use Rattle.std.proofs.Common.{◌≡◌, ◌∙◌, ℕ, ◌+◌, ◌*◌, ◌<◌, ◌≤◌, ℤ, pos, ◌≤ℤ◌, true, List, [], ◌∷◌, map, length, unsigned_abs, inl, inr, mul-le-mul, sym, subst, arith}
+use Rattle.std.specs.Prelude.{All}
+use Rattle.std.specs.List.{Contains}
+use Rattle.std.proofs.lemmas.Bool.{and_parts}
+use Rattle.std.proofs.lemmas.Int.{ints}
+use Rattle.std.proofs.lemmas.List.{length-map}
+use Rattle.std.proofs.lemmas.List.Elements.{All-append, All-contains, All-contains_itself, All-map, All-weaker}
+use Rattle.list_laws.proofs.Membership.{Contains-from_filter}
+use Rattle.space3.specs.declared.lists.Tet.{Tet}
+use Rattle.space3.specs.declared.vectors.V3.{V3}
+use Rattle.space3.specs.Boxes.{are_within, box_of}
+use Rattle.space3.specs.Mesh.{HasNodes, IsSoundTet, place_of}
+use Rattle.boundary.specs.declared.pairs.Pair.{Pair}
+use Rattle.boundary.specs.declared.pairs.PairKind.{PairKind}
+use Rattle.boundary.specs.declared.pairs.PairKind.TheVariants.{VE, VT, EE, ET}
+use Rattle.boundary.specs.Calls.Parts.{IsPart}
+use Rattle.boundary.specs.Pairs.{IsPair, first_parts, pairs_of, part_pair, second_parts}
+use Rattle.boundary.specs.Surface.{SurfaceLists}
+use Rattle.boundary.proofs.PairNodes.{nodes_differ}
+use Rattle.boundary.proofs.PairOrder.{pairs_sorted}
+use Rattle.boundary.proofs.SidesOfTets.{IsSide, first_is_side, first_size, second_is_side, second_size}
+use Rattle.boundary.proofs.SurfaceParts.{first_of_pair, second_of_pair}
+use Rattle.broad_grid.specs.NearPairs.{close_pairs_of, is_close, is_of_close_kind}
+use Rattle.broad_grid.proofs.CloseCounts.{few_close_pairs}
+use Rattle.surface_mesh.specs.declared.setup.Setup.{Setup}
+use Rattle.surface_mesh.specs.Setup.{IsSetup}
+use Rattle.surface_mesh.proofs.ShortEdges.{corners_are_near, some_are_near}
+use Rattle.nearest.specs.declared.limits.TheConstants.{EDGE_LIMIT}
+use Rattle.nearest.specs.Close.{HasShortEdges}
+use Rattle.nearest.proofs.CloseParts.{close_by}
+use Rattle.potential_sum.specs.Calls.Barriers.{AreFour, MayPush}
+use Rattle.potential_sum.specs.Contributions.{close_parts}
+use Rattle.potential_sum.specs.Upright.{IsUpright}
+use Rattle.potential_sum.specs.Upright as upright
+
+-- ---- the pair of a close one
+-- a vertex and a triangle, or two edges
+four_nodes : (s : SurfaceLists) (tets : List Tet) (p : Pair) → is_of_close_kind p.kind ≡ true → IsSide tets (first_size p.kind) (part_pair s p).left → IsSide tets (second_size p.kind) (part_pair s p).right → AreFour (part_pair s p)
+four_nodes s tets p close left right = by p.kind close left.sized right.sized
+  where
+    by : (kind : PairKind) → is_of_close_kind kind ≡ true → length (part_pair s p).left ≡ first_size kind → length (part_pair s p).right ≡ second_size kind → AreFour (part_pair s p)
+    by VE e h k = cc
+    by VT e h k = inl (h, k)
+    by EE e h k = inr (h, k)
+    by ET e h k = cc
+
+-- sides of tetrahedra with short edges have short edges
+side_is_short : (s : Setup) (x : List V3) (size : ℕ) (nodes : List ℕ) → IsSetup s → IsUpright s x → IsSide s.mesh.tets size nodes → HasShortEdges (map (place_of x) nodes)
+side_is_short s x size nodes h stands side =
+    let tet = side.of_tet.tet in
+    let sound : IsSoundTet (length s.mesh.numbers) tet = All-contains (IsSoundTet (length s.mesh.numbers)) s.mesh.tets tet h.mesh_is_sound.tets side.of_tet.there in
+    some_are_near EDGE_LIMIT x tet.nodes nodes side.of_tet.each
+    (corners_are_near EDGE_LIMIT x tet.nodes sound.four
+    (All-contains (λ t. upright.HasShortEdges x t.nodes) s.mesh.tets tet stands.edges side.of_tet.there))
+
+-- the nodes of a part have places
+part_is_there : (s : Setup) (x : List V3) (nodes : List ℕ) → IsSetup s → IsUpright s x → IsPart s.surface nodes → HasNodes x nodes
+part_is_there s x nodes h stands part =
+    subst (λ n. All (λ node. node < n) nodes) (sym (stands.each ∙ h.mesh_is_sound.placed))
+    (All-weaker (Contains s.surface.vertices) (λ node. node < length s.mesh.places)
+    (λ node i. All-contains (λ v. v < length s.mesh.places) s.surface.vertices node h.has_surface.placed i) nodes part.vertices)
+
+small_reach : (dhat : ℤ) → pos 2 ≤ℤ dhat → dhat ≤ℤ pos 1024 → unsigned_abs dhat ≤ 1024
+small_reach dhat h k = omega (arith, ints)
+
+may_push : (s : Setup) (x : List V3) (p : Pair) → IsSetup s → IsUpright s x → IsPair s.surface p → is_close (unsigned_abs s.numbers.dhat) s.surface x p ≡ true → MayPush x (part_pair s.surface p)
+may_push s x p h stands pair close =
+    let parts = part_pair s.surface p in
+    let surface = h.has_surface in
+    let left : IsSide s.mesh.tets (first_size p.kind) parts.left = first_is_side s.mesh s.surface h.mesh_is_sound surface.is_surface surface.lists p.kind p.a pair.first in
+    let right : IsSide s.mesh.tets (second_size p.kind) parts.right = second_is_side s.mesh s.surface h.mesh_is_sound surface.is_surface surface.lists p.kind p.b pair.second in
+    let both = and_parts (is_of_close_kind p.kind) (are_within (unsigned_abs s.numbers.dhat) (box_of (map (place_of x) parts.left)) (box_of (map (place_of x) parts.right))) close in
+    record {
+      four = four_nodes s.surface s.mesh.tets p both.0 left right;
+      there = All-append (λ node. node < length x) parts.left parts.right
+          (part_is_there s x parts.left h stands (first_of_pair s.surface p.kind p.a surface.lists pair.first))
+          (part_is_there s x parts.right h stands (second_of_pair s.surface p.kind p.b surface.lists pair.second));
+      different = record { each = λ i j below l. nodes_differ s.surface p pair left.ascending right.ascending i j 0 below l };
+      close = close_by (unsigned_abs s.numbers.dhat) (map (place_of x) parts.left) (map (place_of x) parts.right)
+          (small_reach s.numbers.dhat h.in_range.dhat.low h.in_range.dhat.high)
+          (side_is_short s x (first_size p.kind) parts.left h stands left) (side_is_short s x (second_size p.kind) parts.right h stands right) both.1;
+    }
+
+pub close_parts_may_push : (s : Setup) (x : List V3) → IsSetup s → IsUpright s x → All (MayPush x) (close_parts s x)
+close_parts_may_push s x h stands =
+    let close = is_close (unsigned_abs s.numbers.dhat) s.surface x in
+    let pairs = close_pairs_of (unsigned_abs s.numbers.dhat) s.surface x in
+    All-map (MayPush x) (part_pair s.surface) pairs
+    (All-weaker (Contains pairs) (λ p. MayPush x (part_pair s.surface p))
+    (λ p i.
+    let found = Contains-from_filter close (pairs_of s.surface) p i in
+    may_push s x p h stands (All-contains (IsPair s.surface) (pairs_of s.surface) p (pairs_sorted s.surface).each found.0) found.1)
+    pairs (All-contains_itself pairs))
+
+-- ---- how many
+-- at most 98304 vertices and edges, and 32768 triangles
+pub few_close_parts : (s : Setup) (x : List V3) → IsSetup s → length (close_parts s x) ≤ 12884901888
+few_close_parts s x h =
+    let lists = h.has_surface.lists in
+    let reach = unsigned_abs s.numbers.dhat in
+    let vertices : length (first_parts s.surface VT) ≤ 98304 = omega (arith, lists.few_vertices, length-map s.surface.vertices (λ (vertex : ℕ). vertex ∷ [])) in
+    let points : length (first_parts s.surface VT) * length (second_parts s.surface VT) ≤ 98304 * 32768 = mul-le-mul vertices lists.few in
+    let edges : length (first_parts s.surface EE) * length (second_parts s.surface EE) ≤ 98304 * 98304 = mul-le-mul lists.few_edges lists.few_edges in
+    at_most (few_close_pairs reach s.surface x) points edges (length-map (close_pairs_of reach s.surface x) (part_pair s.surface))
+  where
+    at_most : {n m a b : ℕ} → n ≤ a + b → a ≤ 98304 * 32768 → b ≤ 98304 * 98304 → m ≡ n → m ≤ 12884901888
+    at_most h k l e = omega (arith, h, k, l, e)
