@@ -1,5 +1,5 @@
 -- Close parts may push each other, and there are not too many.
-use Rattle.std.proofs.Common.{◌≡◌, ◌∙◌, ℕ, ◌+◌, ◌*◌, ◌<◌, ◌≤◌, ℤ, pos, ◌≤ℤ◌, true, List, [], ◌∷◌, map, length, unsigned_abs, inl, inr, mul-le-mul, sym, subst, arith}
+use Rattle.std.proofs.Common.{◌≡◌, ◌∙◌, ℕ, ◌+◌, ◌*◌, ◌<◌, ◌≤◌, ℤ, pos, ◌≤ℤ◌, true, List, [], ◌∷◌, map, length, unsigned_abs, inl, inr, mul-le-mul, ap, sym, subst, arith}
 use Rattle.std.specs.Prelude.{All}
 use Rattle.std.specs.List.{Contains}
 use Rattle.std.proofs.lemmas.Bool.{and_parts}
@@ -29,7 +29,7 @@ use Rattle.surface_mesh.proofs.ShortEdges.{corners_are_near, some_are_near}
 use Rattle.nearest.specs.declared.limits.TheConstants.{EDGE_LIMIT}
 use Rattle.nearest.specs.Close.{HasShortEdges}
 use Rattle.nearest.proofs.CloseParts.{close_by}
-use Rattle.potential_sum.specs.Calls.Barriers.{AreFour, MayPush}
+use Rattle.potential_sum.specs.Calls.Barriers.{AreFour, IsClosePair, MayPush}
 use Rattle.potential_sum.specs.Contributions.{close_parts}
 use Rattle.potential_sum.specs.Upright.{IsUpright}
 use Rattle.potential_sum.specs.Upright as upright
@@ -82,16 +82,20 @@ may_push s x p h stands pair close =
           (side_is_short s x (first_size p.kind) parts.left h stands left) (side_is_short s x (second_size p.kind) parts.right h stands right) both.1;
     }
 
-pub close_parts_may_push : (s : Setup) (x : List V3) → IsSetup s → IsUpright s x → All (MayPush x) (close_parts s x)
-close_parts_may_push s x h stands =
+pub are_close_pairs : (s : Setup) (x : List V3) → IsSetup s → IsUpright s x → All (IsClosePair s x) (close_pairs_of (unsigned_abs s.numbers.dhat) s.surface x)
+are_close_pairs s x h stands =
     let close = is_close (unsigned_abs s.numbers.dhat) s.surface x in
     let pairs = close_pairs_of (unsigned_abs s.numbers.dhat) s.surface x in
-    All-map (MayPush x) (part_pair s.surface) pairs
-    (All-weaker (Contains pairs) (λ p. MayPush x (part_pair s.surface p))
+    All-weaker (Contains pairs) (IsClosePair s x)
     (λ p i.
     let found = Contains-from_filter close (pairs_of s.surface) p i in
-    may_push s x p h stands (All-contains (IsPair s.surface) (pairs_of s.surface) p (pairs_sorted s.surface).each found.0) found.1)
-    pairs (All-contains_itself pairs))
+    let pair = All-contains (IsPair s.surface) (pairs_of s.surface) p (pairs_sorted s.surface).each found.0 in
+    record { there = pair; close = may_push s x p h stands pair found.1 })
+    pairs (All-contains_itself pairs)
+
+pub close_parts_may_push : (s : Setup) (x : List V3) → IsSetup s → IsUpright s x → All (MayPush x) (close_parts s x)
+close_parts_may_push s x h stands =
+    All-map (MayPush x) (part_pair s.surface) (close_pairs_of (unsigned_abs s.numbers.dhat) s.surface x) (λ k d l. (are_close_pairs s x h stands k d l).close)
 
 -- ---- how many
 -- at most 98304 vertices and edges, and 32768 triangles
@@ -106,3 +110,11 @@ few_close_parts s x h =
   where
     at_most : {n m a b : ℕ} → n ≤ a + b → a ≤ 98304 * 32768 → b ≤ 98304 * 98304 → m ≡ n → m ≤ 12884901888
     at_most h k l e = omega (arith, h, k, l, e)
+
+
+-- ---- the pairs that were found
+pub found_are_close : (s : Setup) (x : List V3) (pairs : List Pair) → IsSetup s → IsUpright s x → pairs ≡ close_pairs_of (unsigned_abs s.numbers.dhat) s.surface x → All (IsClosePair s x) pairs
+found_are_close s x pairs h stands e = subst (All (IsClosePair s x)) (sym e) (are_close_pairs s x h stands)
+
+pub found_are_few : (s : Setup) (x : List V3) (pairs : List Pair) → IsSetup s → pairs ≡ close_pairs_of (unsigned_abs s.numbers.dhat) s.surface x → length pairs ≤ 12884901888
+found_are_few s x pairs h e = omega (arith, few_close_parts s x h, length-map pairs (part_pair s.surface), ap (λ (found : List Pair). length (map (part_pair s.surface) found)) e)

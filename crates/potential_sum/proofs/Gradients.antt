@@ -120,7 +120,7 @@ elastic-faint : (places : List V3) (tet : ElasticTet) → IsFaint (elastic_contr
 elastic-faint places tet = record { few = omega arith; weak = elastic-pulls-weak places tet }
 
 -- what nodes and tetrahedra pull with
-bodies : Setup → FrameTerms → List V3 → List Contribution
+abbrev bodies : Setup → FrameTerms → List V3 → List Contribution
 bodies s frame places = map (inertia_contribution s frame places) (node_positions s.mesh) ++ map (elastic_contribution places) (elastic_tets s)
 
 bodies_faint : (s : Setup) (frame : FrameTerms) (places : List V3) → All IsFaint (bodies s frame places)

@@ -24,11 +24,20 @@ movers s terms x masses targets built sturdy stand pose e f =
       near = stand.near;
     }))
 
--- the sum of both energies, as it is computed
-pub both : (a b c d : ℤ) → a ≡ c → b ≡ d → AtMost (2 ^ 104) a → AtMost (2 ^ 106) b → to_z w128 (of_z w128 (to_z w128 (of_z w128 a) +ℤ to_z w128 (of_z w128 b))) ≡ c +ℤ d
-both a b c d e f h k =
-    ap (λ (z : ℤ). to_z w128 (of_z w128 z)) (λ i. clean w128 a (2 ^ 104) h.bound (lit< tt) i +ℤ clean w128 b (2 ^ 106) k.bound (lit< tt) i)
-    ∙ clean w128 (a +ℤ b) (2 ^ 107) (small a b h.bound k.bound) (lit< tt) ∙ (λ i. e i +ℤ f i)
+-- the sum of three energies, as it is computed
+pub all_three : (a b c d e f : ℤ) → a ≡ d → b ≡ e → c ≡ f → AtMost (2 ^ 104) a → AtMost (2 ^ 106) b → AtMost (2 ^ 124) c →
+    to_z w128 (of_z w128 (to_z w128 (of_z w128 (to_z w128 (of_z w128 a) +ℤ to_z w128 (of_z w128 b))) +ℤ to_z w128 (of_z w128 c))) ≡ (d +ℤ e) +ℤ f
+all_three a b c d e f p q r h k l =
+    ap (λ (z : ℤ). to_z w128 (of_z w128 z)) ((λ i. two i +ℤ clean w128 c (2 ^ 124) l.bound (lit< tt) i))
+    ∙ clean w128 ((a +ℤ b) +ℤ c) (2 ^ 125) (whole (a +ℤ b) c (small a b h.bound k.bound) l.bound) (lit< tt) ∙ (λ i. (p i +ℤ q i) +ℤ r i)
   where
     small : (a b : ℤ) → unsigned_abs a ≤ 2 ^ 104 → unsigned_abs b ≤ 2 ^ 106 → unsigned_abs (a +ℤ b) ≤ 2 ^ 107
     small a b h k = omega (arith, size_sum a b)
+
+    whole : (a b : ℤ) → unsigned_abs a ≤ 2 ^ 107 → unsigned_abs b ≤ 2 ^ 124 → unsigned_abs (a +ℤ b) ≤ 2 ^ 125
+    whole a b h k = omega (arith, size_sum a b)
+
+    two : to_z w128 (of_z w128 (to_z w128 (of_z w128 a) +ℤ to_z w128 (of_z w128 b))) ≡ a +ℤ b
+    two =
+        ap (λ (z : ℤ). to_z w128 (of_z w128 z)) (λ i. clean w128 a (2 ^ 104) h.bound (lit< tt) i +ℤ clean w128 b (2 ^ 106) k.bound (lit< tt) i)
+        ∙ clean w128 (a +ℤ b) (2 ^ 107) (small a b h.bound k.bound) (lit< tt)

@@ -1,5 +1,5 @@
 -- The pulls of contributions: how many, how great, and at which nodes.
-use Rattle.std.proofs.Common.{◌≡◌, ℕ, ◌^◌, ◌<◌, ◌≤◌, ℤ, pos, ◌+ℤ◌, ◌*ℤ◌, neg_ℤ, List, [], ◌∷◌, ◌++◌, length, length-append, map, get_or, refl, arith, lit≤, ◌⊎◌, inl, inr}
+use Rattle.std.proofs.Common.{ℕ, ◌^◌, ◌<◌, ◌≤◌, ℤ, pos, ◌+ℤ◌, ◌*ℤ◌, neg_ℤ, List, [], ◌∷◌, ◌++◌, length, length-append, map, get_or, arith, lit≤, ◌⊎◌, inl, inr}
 use Rattle.std.specs.Prelude.{All, zip}
 use Rattle.std.specs.List.{range_with_len}
 use Rattle.std.proofs.lemmas.List.{length-map}

@@ -1,9 +1,10 @@
 -- Pulls that are added at their nodes, one after another, give the sum of all at each node.
-use Rattle.std.proofs.Common.{◌≡◌, ◌∙◌, ℕ, ◌+◌, ◌<◌, ℤ, pos, ◌+ℤ◌, Bool, true, false, List, [], ◌∷◌, ◌++◌, map, set, get_or, length, take, drop, replicate, refl, ap, sym, subst, arith, append_assoc}
-use Rattle.std.specs.Prelude.{◌==◌, All, zip, slice_index, if◌then◌else◌}
+use Rattle.std.proofs.Common.{◌≡◌, ◌∙◌, ℕ, suc, ◌<◌, ℤ, pos, ◌+ℤ◌, Bool, true, false, List, [], ◌∷◌, ◌++◌, map, set, get_or, length, take, drop, replicate, refl, ap, sym, subst, arith, append_assoc}
+use Rattle.std.specs.Prelude.{◌==◌, All, zip, if◌then◌else◌}
 use Rattle.std.specs.List.{range_with_len}
-use Rattle.std.proofs.lemmas.Bool.{eq-eqb, ne_eqb}
+use Rattle.std.proofs.lemmas.Bool.{eq-eqb, eqb-true, ne_eqb}
 use Rattle.std.proofs.lemmas.Int.{ints}
+use Rattle.std.proofs.lemmas.List.{get_or_default}
 use Rattle.std.proofs.lemmas.List.Elements.{All-head, All-tail}
 use Rattle.std.proofs.lemmas.List.FromFn.{length-map-range_with_len}
 use Rattle.std.proofs.Math.Seq.{take-append_seam}
@@ -129,23 +130,18 @@ none_at k (node ∷ nodes) (v ∷ vs) h =
     ∙ sum_of-origin origin
 
 differ_from : (node : ℕ) (nodes : List ℕ) → AreDifferent (node ∷ nodes) → All (λ n. ¬ (n ≡ node)) nodes
-differ_from node nodes h = λ k d l e. h.each 0 (k + 1) (omega arith) (omega (arith, l)) (sym e ∙ get_or-same nodes k d l)
-  where
-    get_or-same : (ns : List ℕ) (k d : ℕ) → k < length ns → get_or ns k d ≡ slice_index ns k
-    get_or-same ns k d l = 0
+differ_from node nodes h = λ k d l e. h.each 0 (suc k) (omega arith) (omega (arith, l)) (sym (get_or_default nodes k 0 d l ∙ e))
 
 differ_after : (node : ℕ) (nodes : List ℕ) → AreDifferent (node ∷ nodes) → AreDifferent nodes
-differ_after node nodes h = record { each = λ i j l m. h.each (i + 1) (j + 1) (omega (arith, l)) (omega (arith, m)) }
+differ_after node nodes h = record { each = λ i j l m. h.each (suc i) (suc j) (omega (arith, l)) (omega (arith, m)) }
 
 pub once-size : (most k : ℕ) (nodes : List ℕ) (vs : List V3) → AreDifferent nodes → All (Within most) vs → Within most (sum_at k nodes vs)
 once-size most k [] vs h w = record { x = record { bound = omega arith }; y = record { bound = omega arith }; z = record { bound = omega arith } }
 once-size most k (node ∷ nodes) [] h w = record { x = record { bound = omega arith }; y = record { bound = omega arith }; z = record { bound = omega arith } }
-once-size most k (node ∷ nodes) (v ∷ vs) h w = either (node == k) refl
+once-size most k (node ∷ nodes) (v ∷ vs) h w = either (node == k) refl (once-size most k nodes vs (differ_after node nodes h) (All-tail (Within most) v vs w))
   where
-    either : (b : Bool) → (node == k) ≡ b → Within most (sum_at k (node ∷ nodes) (v ∷ vs))
-    either true e =
-        subst (Within most) (sym ((λ i. sum_of (chosen (node == k) v e i) (none_at k nodes vs (rw (← eqb-eq node k e) at differ_from node nodes h) i)) ∙ sum_of-origin v))
+    either : (b : Bool) → (node == k) ≡ b → Within most (sum_at k nodes vs) → Within most (sum_at k (node ∷ nodes) (v ∷ vs))
+    either true e rest =
+        subst (Within most) (sym ((λ i. sum_of (chosen (node == k) v e i) (none_at k nodes vs (subst (λ n. All (λ m. ¬ (m ≡ n)) nodes) (eqb-true node k e) (differ_from node nodes h)) i)) ∙ sum_of-origin v))
         (All-head (Within most) v vs w)
-    either false e =
-        subst (Within most) (sym ((λ i. sum_of (passed (node == k) v e i) (sum_at k nodes vs)) ∙ origin-sum_of (sum_at k nodes vs)))
-        (once-size most k nodes vs (differ_after node nodes h) (All-tail (Within most) v vs w))
+    either false e rest = subst (Within most) (sym ((λ i. sum_of (passed (node == k) v e i) (sum_at k nodes vs)) ∙ origin-sum_of (sum_at k nodes vs))) rest

@@ -1,5 +1,5 @@
 //! The terms of a frame.
-ghost use Rattle.std.specs.Prelude.{◌≡◌, ◌≤◌, IfOk, OnErr, OnOk, All, length, map, ◌++◌};
+ghost use Rattle.std.specs.Prelude.{◌≡◌, ◌≤◌, ◌^◌, IfOk, OnErr, OnOk, All, length, map, ◌++◌};
 ghost use Rattle.std.specs.List.{range_with_len};
 ghost use Rattle.surface_mesh.specs.declared.ranges.TheConstants.{FARTHEST_BEFORE};
 ghost use Rattle.space3.specs.Vectors.{Within};

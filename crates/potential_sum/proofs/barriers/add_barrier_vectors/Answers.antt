@@ -1,12 +1,13 @@
-use Rattle.std.proofs.Common.{◌≡◌, ◌∙◌, ◌<◌, ◌-◌, ◌^◌, length, map, take, get_or, ap, subst, sym, arith}
+use Rattle.std.proofs.Common.{◌≡◌, ◌∙◌, ℕ, ◌<◌, ◌-◌, ◌^◌, length, map, take, get_or, ap, subst, sym, arith}
 use Rattle.std.specs.Prelude.{All, zip}
 use Rattle.std.proofs.lemmas.List.{length-map, length-take, map_more}
 use Rattle.std.proofs.lemmas.List.Elements.{All-map, All-take}
+use Rattle.space3.specs.declared.vectors.V3.{V3}
 use Rattle.boundary.specs.declared.pairs.Pair.{Pair}
 use Rattle.boundary.specs.declared.pairs.PairKind.TheVariants as kinds
 use Rattle.boundary.specs.Pairs.{part_pair}
 use Rattle.potential_sum.specs.declared.pulls.Pull.{Pull}
-use Rattle.potential_sum.specs.Calls.Barriers.{IsClosePair, MayPush, barrier_at, parts_in}
+use Rattle.potential_sum.specs.Calls.Barriers.{IsClosePair, barrier_at, parts_in}
 use Rattle.potential_sum.specs.Calls.Sums.{as_pull, pulls_of, vectors_of, with_parts, with_pulls}
 use Rattle.potential_sum.specs.Contributions.{Contribution, barrier_contribution}
 use Rattle.potential_sum.proofs.HeldParts.{held_pair}
@@ -25,7 +26,8 @@ add_pulls-requires-clause-there c =
     let long : length c.loop-pair.sums ≡ length c.args.x.now = c.loop-pair.auto.sums ∙ c.requires.nodes in
     subst (All (λ (pull : Pull). pull.node < length c.loop-pair.sums)) (sym c.vectors.ensures)
     (All-map (λ (pull : Pull). pull.node < length c.loop-pair.sums) as_pull (zip part.nodes (vectors_of c.args.quantity part))
-    (rw long at (barrier-part-inside c.args.quantity c.args.setup.now.numbers c.args.x.now parts (held_pair c.args.setup.now c.args.x.now c.args.pairs.now c.parts_of-parts.result c.loop-pair.pair-index _ c.requires.close c.loop-pair-test.true c.parts_of-parts.ensures))))
+    (subst (λ n. All (λ (pull : ℕ × V3). pull.0 < n) (zip part.nodes (vectors_of c.args.quantity part))) (sym long)
+    (barrier-part-inside c.args.quantity c.args.setup.now.numbers c.args.x.now parts (held_pair c.args.setup.now c.args.x.now c.args.pairs.now c.parts_of-parts.result c.loop-pair.pair-index _ c.requires.close c.loop-pair-test.true c.parts_of-parts.ensures))))
 
 pub add_pulls-requires-clause-small : goal.add_pulls-requires-clause-small
 add_pulls-requires-clause-small c =

@@ -1,4 +1,4 @@
-use Rattle.std.proofs.Common.{◌≡◌, ◌∙◌, ◌+◌, ℤ, ◌+ℤ◌, map, take, ap, sym, subst, arith, to_z, of_z, get_or}
+use Rattle.std.proofs.Common.{◌≡◌, ◌∙◌, ◌+◌, ℤ, ◌+ℤ◌, map, take, ap, arith, to_z, of_z, get_or}
 use Rattle.std.specs.Int.{w128}
 use Rattle.std.proofs.lemmas.Int.{to_z-of_z}
 use Rattle.std.proofs.lemmas.List.{map_more}
@@ -8,7 +8,7 @@ use Rattle.safe_motion.specs.Safety.{PartPair}
 use Rattle.boundary.specs.declared.pairs.Pair.{Pair}
 use Rattle.boundary.specs.declared.pairs.PairKind.TheVariants as kinds
 use Rattle.boundary.specs.Pairs.{part_pair}
-use Rattle.potential_sum.specs.Calls.Barriers.{MayPush, barrier_at}
+use Rattle.potential_sum.specs.Calls.Barriers.{barrier_at}
 use Rattle.potential_sum.specs.Contributions.{barrier_contribution}
 use Rattle.potential_sum.proofs.Energies.{IsAdded, added, barrier-small}
 use Rattle.potential_sum.proofs.HeldParts.{held_pair}

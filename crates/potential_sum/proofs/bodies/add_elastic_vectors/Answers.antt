@@ -1,4 +1,4 @@
-use Rattle.std.proofs.Common.{◌∙◌, map, take, get_or, ap, subst, sym, arith}
+use Rattle.std.proofs.Common.{◌∙◌, ◌-◌, ◌^◌, map, take, get_or, ap, subst, sym, arith}
 use Rattle.std.specs.Prelude.{All}
 use Rattle.std.proofs.lemmas.List.{length-map, length-take, map_more}
 use Rattle.std.proofs.lemmas.List.Elements.{All-map}

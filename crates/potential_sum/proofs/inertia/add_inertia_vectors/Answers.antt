@@ -1,4 +1,4 @@
-use Rattle.std.proofs.Common.{◌∙◌, map, ap, subst, sym, arith}
+use Rattle.std.proofs.Common.{◌∙◌, ◌-◌, ◌^◌, map, ap, subst, sym, arith}
 use Rattle.std.specs.Prelude.{All}
 use Rattle.std.specs.List.{range_with_len}
 use Rattle.std.proofs.lemmas.List.FromFn.{length-map-range_with_len, map-range_with_len_more}
@@ -12,7 +12,7 @@ use Rattle.potential_sum.proofs.inertia.add_inertia_vectors.Goals as goal
 pub add_pulls-requires-clause-small : goal.add_pulls-requires-clause-small
 add_pulls-requires-clause-small c =
     let f = part_at c.args.masses.now c.args.targets.now c.args.x.now in
-    parts_light c.args.quantity c.args.sums.now c.loop-node.sums (map f (range_with_len 0 c.loop-node.node)) (omega (arith, length-map-range_with_len f 0 c.loop-node.node, c.requires.few, c.loop-node-test.true))
+    parts_light c.args.quantity (2 ^ 118) (2 ^ 126 - 2 ^ 92) c.args.sums.now c.loop-node.sums (map f (range_with_len 0 c.loop-node.node)) (omega (arith, length-map-range_with_len f 0 c.loop-node.node, c.requires.few, c.loop-node-test.true))
     (inertia-parts-small c.args.quantity c.args.masses.now c.args.targets.now c.args.x.now c.loop-node.node) c.requires.small c.loop-node.invariant
 
 pub add_pulls-requires-clause-pulls : goal.add_pulls-requires-clause-pulls

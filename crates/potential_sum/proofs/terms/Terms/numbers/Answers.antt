@@ -1,34 +1,69 @@
-use Rattle.std.proofs.Common.{◌≡◌, ◌∙◌, ◌++◌, ℕ, false, List, map, length, ap, subst, sym}
+use Rattle.std.proofs.Common.{◌≡◌, ◌∙◌, ◌++◌, ℕ, ℤ, false, List, map, length, get_or, ap, subst, sym, rules}
 use Rattle.std.specs.Prelude.{All, Bool, slice_index_or}
 use Rattle.std.specs.List.{flat_map, range_with_len}
+use Rattle.std.proofs.lemmas.List.Elements.{All-map}
+use Rattle.space3.specs.declared.vectors.V3.{V3}
+use Rattle.boundary.specs.declared.pairs.Pair.{Pair}
+use Rattle.boundary.specs.Pairs.{part_pair}
+use Rattle.potential_sum.specs.declared.bodies.Body.{Body}
 use Rattle.potential_sum.specs.Bodies.{elastic_tets}
+use Rattle.potential_sum.specs.Calls.Barriers.{barrier_at}
 use Rattle.potential_sum.specs.Calls.Inertia.{part_at}
 use Rattle.potential_sum.specs.Calls.Kept.{MayStand, elastic_in}
-use Rattle.potential_sum.specs.Calls.Sums.{node_sums, nothing, numbers_of}
-use Rattle.potential_sum.specs.Contributions.{elastic_contribution}
+use Rattle.potential_sum.specs.Calls.Sums.{node_sums, nothing, numbers_of, with_parts}
+use Rattle.potential_sum.specs.Contributions.{Contribution, contributions, elastic_contribution}
 use Rattle.potential_sum.specs.Terms.{KeptTerms}
+use Rattle.potential_sum.proofs.CloseParts.{found_are_close, found_are_few}
 use Rattle.potential_sum.proofs.Gradients.{contributions-kept, numbers-sums}
 use Rattle.potential_sum.proofs.KeptTerms.{movers}
+use Rattle.potential_sum.proofs.Parts.{barrier-part-inside}
+use Rattle.potential_sum.proofs.PullSums.{IsInside, length-node_sums, with_parts-sums, written_back}
 use Rattle.potential_sum.proofs.Standing.{bodies_may_stand}
 use Rattle.potential_sum.proofs.terms.Terms.numbers.Goals as goal
 
-pub node_sums-requires-clause-nodes : goal.node_sums-requires-clause-nodes
-node_sums-requires-clause-nodes c =
+pub body_sums-requires-clause-nodes : goal.body_sums-requires-clause-nodes
+body_sums-requires-clause-nodes c =
     movers c.args.setup.now c.args.self.now c.args.x.now c.items.result.now c.as_slice.result.now c.requires.built c.requires.sturdy c.requires.stand c.requires.pose
     c.items.ensures (c.as_slice.ensures.value ∙ ap (λ (t : KeptTerms). t.frame.targets) c.self.view_is)
 
-pub node_sums-requires-clause-stand : goal.node_sums-requires-clause-stand
-node_sums-requires-clause-stand c =
+pub body_sums-requires-clause-stand : goal.body_sums-requires-clause-stand
+body_sums-requires-clause-stand c =
     subst (All (λ body. MayStand c.args.x.now (elastic_in body))) (sym c.as_slice-2.ensures.value)
     (bodies_may_stand c.args.setup.now c.args.x.now c.self.inside.bodies.items c.requires.built c.requires.pose (ap (λ (t : KeptTerms). t.elastic) c.self.view_is ∙ c.requires.stand.elastic))
 
+pub add_barrier_vectors-requires-clause-close : goal.add_barrier_vectors-requires-clause-close
+add_barrier_vectors-requires-clause-close c = found_are_close c.args.setup.now c.args.x.now c.items-2.result.now c.requires.built c.requires.pose (c.items-2.ensures ∙ c.in_ok-pairs.ensures)
+
+pub add_barrier_vectors-requires-clause-few : goal.add_barrier_vectors-requires-clause-few
+add_barrier_vectors-requires-clause-few c = found_are_few c.args.setup.now c.args.x.now c.items-2.result.now c.requires.built (c.items-2.ensures ∙ c.in_ok-pairs.ensures)
+
+pub add_barrier_vectors-requires-clause-nodes : goal.add_barrier_vectors-requires-clause-nodes
+add_barrier_vectors-requires-clause-nodes c =
+    ap length (c.deref_mut.ensures.value ∙ c.in_ok-sums.ensures.sums)
+    ∙ length-node_sums c.args.quantity (length c.args.x.now) (map (part_at c.items.result.now c.as_slice.result.now c.args.x.now) (range_with_len 0 (length c.args.x.now)) ++ map (λ body. elastic_contribution c.args.x.now (elastic_in body)) c.as_slice-2.result.now)
+
 pub returns : goal.returns
 returns c =
+    let s = c.args.setup.now in
+    let q = c.args.quantity in
+    let x = c.args.x.now in
+    let n = length x in
+    let bodies = c.self.inside.bodies.items in
+    let frame = c.args.self.now.frame in
+    let inertia : List ℤ → List V3 → List Contribution = λ masses aims. map (part_at masses aims x) (range_with_len 0 n) in
+    let elasticity : List Body → List Contribution = map (λ body. elastic_contribution x (elastic_in body)) in
+    let near : List Pair → List Contribution = map (barrier_at s x) in
     let targets = c.as_slice.ensures.value ∙ ap (λ (t : KeptTerms). t.frame.targets) c.self.view_is in
-    let kept : map elastic_in c.self.inside.bodies.items ≡ elastic_tets c.args.setup.now = ap (λ (t : KeptTerms). t.elastic) c.self.view_is ∙ c.requires.stand.elastic in
-    let sums = c.as_slice-3.ensures.value ∙ c.in_ok-sums.ensures
-    ∙ (λ i. node_sums c.args.quantity (length c.args.x.now) (map (part_at (c.items.ensures i) (targets i) c.args.x.now) (range_with_len 0 (length c.args.x.now)) ++ map (λ body. elastic_contribution c.args.x.now (elastic_in body)) (c.as_slice-2.ensures.value i)))
-    ∙ ap (node_sums c.args.quantity (length c.args.x.now)) (contributions-kept c.args.setup.now c.args.self.now.frame c.args.x.now c.self.inside.bodies.items c.requires.pose.each kept) in
+    let kept : map elastic_in bodies ≡ elastic_tets s = ap (λ (t : KeptTerms). t.elastic) c.self.view_is ∙ c.requires.stand.elastic in
+    let whole : length c.add_barrier_vectors.new.sums ≡ c.in_ok-sums.sums.len = search rules in
+    let of_bodies : c.deref_mut.result.now ≡ node_sums q n (inertia s.mass frame.targets ++ elasticity bodies) =
+    c.deref_mut.ensures.value ∙ c.in_ok-sums.ensures.sums ∙ (λ i. node_sums q n (inertia (c.items.ensures i) (targets i) ++ elasticity (c.as_slice-2.ensures.value i))) in
+    let sums : c.as_slice-3.result.now ≡ node_sums q n (contributions s frame x) =
+    c.as_slice-3.ensures.value ∙ written_back c.add_barrier_vectors.new.sums c.in_ok-sums.sums.items c.in_ok-sums.sums.len whole
+    ∙ c.add_barrier_vectors.ensures ∙ (λ i. with_parts q (of_bodies i) (near (c.items-2.ensures i)))
+    ∙ with_parts-sums q n (inertia s.mass frame.targets ++ elasticity bodies) (near c.in_ok-pairs.pairs)
+    (All-map (IsInside q n) (barrier_at s x) c.in_ok-pairs.pairs (λ k d l. barrier-part-inside q s.numbers x (part_pair s.surface (get_or c.in_ok-pairs.pairs k d)) (found_are_close s x c.in_ok-pairs.pairs c.requires.built c.requires.pose c.in_ok-pairs.ensures k d l).close))
+    ∙ ap (node_sums q n) (contributions-kept s frame x bodies c.in_ok-pairs.pairs c.requires.pose.each kept c.in_ok-pairs.ensures) in
     c.in_ok-made.ensures
-    ∙ ap (λ (fixed : List Bool). flat_map (λ (node : ℕ). numbers_of c.args.quantity (slice_index_or fixed node false) (slice_index_or c.as_slice-3.result.now node nothing)) (range_with_len 0 (length c.as_slice-3.result.now))) c.items-2.ensures
-    ∙ numbers-sums c.args.quantity c.args.setup.now c.args.self.now.frame c.args.x.now c.as_slice-3.result.now c.requires.pose.each sums
+    ∙ ap (λ (fixed : List Bool). flat_map (λ (node : ℕ). numbers_of q (slice_index_or fixed node false) (slice_index_or c.as_slice-3.result.now node nothing)) (range_with_len 0 (length c.as_slice-3.result.now))) c.items-3.ensures
+    ∙ numbers-sums q s frame x c.as_slice-3.result.now c.requires.pose.each sums
