@@ -13,17 +13,18 @@ use Rattle.potential_sum.specs.Terms.{FrameTerms}
 use Rattle.vec_q.specs.Rows.{components}
 use Rattle.potential_sum.specs.Diagonals.{diagonal, diagonal_at}
 use Rattle.potential_sum.specs.Potential.{gradient, gradient_at}
+use Rattle.potential_sum.specs.Upright.{IsUpright}
 use Rattle.frame_driver.specs.Directions.{jacobi, jacobi_at, jacobi_component}
 use Rattle.frame_driver.specs.Calls.Slopes.{BelongTogether, direction_at, directions_of}
 use Rattle.potential_sum.proofs.Gradients.{length-gradient, gradient_stands, gradient_is_small, length-diagonal, diagonal_stands, diagonal_is_small}
 
 -- the diagonal and the gradient of a setup belong together
-pub belong_together : (s : Setup) (terms : FrameTerms) (x : List V3) → IsSetup s → length x ≡ length s.mesh.numbers → BelongTogether (length x) (diagonal s terms x) (gradient s terms x)
-belong_together s terms x built each = record {
-  entries = length-diagonal s terms x ∙ ap (λ n. 3 * n) (sym each);
-  three = length-gradient s terms x ∙ ap (λ n. 3 * n) (sym each);
+pub belong_together : (s : Setup) (terms : FrameTerms) (x : List V3) → IsSetup s → IsUpright s x → BelongTogether (length x) (diagonal s terms x) (gradient s terms x)
+belong_together s terms x built pose = record {
+  entries = length-diagonal s terms x ∙ ap (λ n. 3 * n) (sym pose.each);
+  three = length-gradient s terms x ∙ ap (λ n. 3 * n) (sym pose.each);
   short = diagonal_is_small s terms x;
-  small = gradient_is_small s terms x built;
+  small = gradient_is_small s terms x built pose;
 }
 
 -- where two functions agree on each element, they map the list alike

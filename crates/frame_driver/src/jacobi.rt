@@ -1,5 +1,5 @@
 //! Jacobi's direction: each component of the gradient over the matrix's diagonal entry.
-ghost use Rattle.std.specs.Prelude.{◌≡◌, ◌<◌, ◌^◌, ◌<ℤ◌, pos, length, All, IfOk, slice_index_or};
+ghost use Rattle.std.specs.Prelude.{◌≡◌, ◌<◌, ◌^◌, ◌-◌, ◌<ℤ◌, pos, length, All, IfOk, slice_index_or};
 ghost use Rattle.space3.specs.declared.ways.TheConstants.{DIRECTION_LIMIT};
 ghost use Rattle.space3.specs.Vectors.{AtMost, Within};
 ghost use Rattle.std.specs.Int.{int_max};
@@ -48,7 +48,7 @@ fn component_at(diagonal: &[i128], slopes: &[i128], i: usize) -> i64
     requires entry { i < length diagonal.now }
     requires slope { i < length slopes.now }
     requires entries { All (AtMost (2 ^ 62)) diagonal.now }
-    requires small { All (AtMost (2 ^ 109)) slopes.now }
+    requires small { All (AtMost (2 ^ 124 - 1)) slopes.now }
     ensures value { result ≡ component_at diagonal.now slopes.now i }
     ensures short { AtMost DIRECTION_LIMIT result }
 {
@@ -63,20 +63,20 @@ fn entry_at(diagonal: &[i128], i: usize) -> Q<0, 63>
     Q::of_raw(diagonal[i])
 }
 
-fn slope_at(slopes: &[i128], i: usize) -> Q<0, 110>
+fn slope_at(slopes: &[i128], i: usize) -> Q<0, 124>
     requires there { i < length slopes.now }
-    requires small { All (AtMost (2 ^ 109)) slopes.now }
+    requires small { All (AtMost (2 ^ 124 - 1)) slopes.now }
     ensures { result.raw ≡ slice_index_or slopes.now i (pos 0) }
 {
     Q::of_raw(slopes[i])
 }
 
 // A component of the direction.
-fn component(diagonal: Q<0, 63>, slope: Q<0, 110>) -> i64
+fn component(diagonal: Q<0, 63>, slope: Q<0, 124>) -> i64
     ensures value { result ≡ jacobi_component diagonal.raw slope.raw }
     ensures short { AtMost DIRECTION_LIMIT result }
 {
-    let exact: Q<0, 110> = slope.neg().round_into(divisor(diagonal));
+    let exact: Q<0, 124> = slope.neg().round_into(divisor(diagonal));
     let cut: Q<0, 21> = exact.cut_into();
     cut.raw() as i64
 }

@@ -1,6 +1,6 @@
 -- The gradient and the diagonal from what was added up; how long they are, how great their numbers are, and where those of
 -- a node stand.
-use Rattle.std.proofs.Common.{◌≡◌, ◌∙◌, ℕ, suc, ◌+◌, ◌*◌, ◌<◌, ◌≤◌, ◌^◌, ℤ, true, false, List, [], ◌∷◌, ◌++◌, length, map, take, get_or, refl, ap, sym, subst, arith, lit≤, length-append, zero-add, unsigned_abs}
+use Rattle.std.proofs.Common.{◌≡◌, ◌∙◌, ℕ, suc, ◌+◌, ◌-◌, ◌*◌, ◌<◌, ◌≤◌, ◌^◌, ℤ, true, false, List, [], ◌∷◌, ◌++◌, length, map, take, get_or, refl, ap, sym, subst, arith, lit≤, length-append, zero-add, unsigned_abs}
 use Rattle.std.specs.Prelude.{◌==◌, All, Bool, if◌then◌else◌, slice_index_or, zip}
 use Rattle.std.specs.List.{flat_map, range_with_len}
 use Rattle.std.proofs.lemmas.List.{length-map, length-take-le, map-append}
@@ -139,8 +139,8 @@ many s frame places built =
 barrier-pull-size : (numbers : Numbers) (places : List V3) (node : ℕ) (parts : PartPair) → MayPush places parts → Within (2 ^ 90) (pull_at node (barrier_contribution numbers places parts))
 barrier-pull-size numbers places node parts h = once-size (2 ^ 90) node (parts.left ++ parts.right) (barrier_contribution numbers places parts).pulls h.different (barrier-pulls-weak numbers places parts)
 
--- each of the three numbers of a node is at most 2^124
-gradient_at_is_small : (s : Setup) (frame : FrameTerms) (places : List V3) (node : ℕ) → IsSetup s → IsUpright s places → Within (2 ^ 124) (gradient_at s frame places node)
+-- each of the three numbers of a node is below 2^124
+gradient_at_is_small : (s : Setup) (frame : FrameTerms) (places : List V3) (node : ℕ) → IsSetup s → IsUpright s places → Within (2 ^ 124 - 1) (gradient_at s frame places node)
 gradient_at_is_small s frame places node built pose = either (slice_index_or s.fixed node false)
   where
     near : List Contribution
@@ -166,26 +166,26 @@ gradient_at_is_small s frame places node built pose = either (slice_index_or s.f
         (All-map (λ part. Within (2 ^ 90) (pull_at node part)) (barrier_contribution s.numbers places) (close_parts s places) (λ k d l. barrier-pull-size s.numbers places node _ (close_parts_may_push s places built pose k d l)))))
         (omega (arith, length-map near (pull_at node), length-map (close_parts s places) (barrier_contribution s.numbers places), few_close_parts s places built))
 
-    free : Within (2 ^ 124) (vector_total (map (pull_at node) (contributions s frame places)))
+    free : Within (2 ^ 124 - 1) (vector_total (map (pull_at node) (contributions s frame places)))
     free =
-        subst (Within (2 ^ 124)) (sym (ap vector_total (map-append (pull_at node) (bodies s frame places) near) ∙ vector_total-append first second))
-        (within-sum (81920 * 2 ^ 92) (12884901888 * 2 ^ 90) (2 ^ 124) (vector_total first) (vector_total second) of_bodies of_barriers (lit≤ tt))
+        subst (Within (2 ^ 124 - 1)) (sym (ap vector_total (map-append (pull_at node) (bodies s frame places) near) ∙ vector_total-append first second))
+        (within-sum (81920 * 2 ^ 92) (12884901888 * 2 ^ 90) (2 ^ 124 - 1) (vector_total first) (vector_total second) of_bodies of_barriers (lit≤ tt))
 
-    either : (fixed : Bool) → Within (2 ^ 124) (if fixed then origin else vector_total (map (pull_at node) (contributions s frame places)))
+    either : (fixed : Bool) → Within (2 ^ 124 - 1) (if fixed then origin else vector_total (map (pull_at node) (contributions s frame places)))
     either true = record { x = record { bound = omega arith }; y = record { bound = omega arith }; z = record { bound = omega arith } }
     either false = free
 
 -- each number of a gradient is
-pub gradient_is_small : (s : Setup) (frame : FrameTerms) (places : List V3) → IsSetup s → IsUpright s places → All (AtMost (2 ^ 124)) (gradient s frame places)
+pub gradient_is_small : (s : Setup) (frame : FrameTerms) (places : List V3) → IsSetup s → IsUpright s places → All (AtMost (2 ^ 124 - 1)) (gradient s frame places)
 gradient_is_small s frame places built pose = joined (node_positions s.mesh)
   where
-    three : (v : V3) → Within (2 ^ 124) v → All (AtMost (2 ^ 124)) (components v)
-    three v h = All-cons (AtMost (2 ^ 124)) v.x (v.y ∷ v.z ∷ []) h.x (All-cons (AtMost (2 ^ 124)) v.y (v.z ∷ []) h.y (All-cons (AtMost (2 ^ 124)) v.z [] h.z (All-nil (AtMost (2 ^ 124)))))
+    three : (v : V3) → Within (2 ^ 124 - 1) v → All (AtMost (2 ^ 124 - 1)) (components v)
+    three v h = All-cons (AtMost (2 ^ 124 - 1)) v.x (v.y ∷ v.z ∷ []) h.x (All-cons (AtMost (2 ^ 124 - 1)) v.y (v.z ∷ []) h.y (All-cons (AtMost (2 ^ 124 - 1)) v.z [] h.z (All-nil (AtMost (2 ^ 124 - 1)))))
 
-    joined : (nodes : List ℕ) → All (AtMost (2 ^ 124)) (flat_map (λ node. components (gradient_at s frame places node)) nodes)
-    joined [] = All-nil (AtMost (2 ^ 124))
+    joined : (nodes : List ℕ) → All (AtMost (2 ^ 124 - 1)) (flat_map (λ node. components (gradient_at s frame places node)) nodes)
+    joined [] = All-nil (AtMost (2 ^ 124 - 1))
     joined (node ∷ nodes) =
-        All-append (AtMost (2 ^ 124)) (components (gradient_at s frame places node)) (flat_map (λ n. components (gradient_at s frame places n)) nodes)
+        All-append (AtMost (2 ^ 124 - 1)) (components (gradient_at s frame places node)) (flat_map (λ n. components (gradient_at s frame places n)) nodes)
         (three (gradient_at s frame places node) (gradient_at_is_small s frame places node built pose)) (joined nodes)
 
 -- ---- the diagonal

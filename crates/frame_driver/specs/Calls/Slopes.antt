@@ -1,5 +1,5 @@
 -- Jacobi's direction from plain lists: three diagonal entries and three slopes per node.
-use Rattle.std.specs.Prelude.{◌≡◌, ◌+◌, ◌*◌, ◌^◌, ℕ, ℤ, pos, List, length, All, map, slice_index_or}
+use Rattle.std.specs.Prelude.{◌≡◌, ◌+◌, ◌-◌, ◌*◌, ◌^◌, ℕ, ℤ, pos, List, length, All, map, slice_index_or}
 use Rattle.std.specs.List.{range_with_len}
 use Rattle.space3.specs.declared.vectors.V3.{V3}
 use Rattle.space3.specs.Vectors.{AtMost, vector}
@@ -25,4 +25,4 @@ pub record BelongTogether (nodes : ℕ) (diagonal slopes : List ℤ) : Type 0 wh
   pub entries : length diagonal ≡ 3 * nodes
   pub three : length slopes ≡ 3 * nodes
   pub short : All (AtMost (2 ^ 62)) diagonal
-  pub small : All (AtMost (2 ^ 109)) slopes
+  pub small : All (AtMost (2 ^ 124 - 1)) slopes

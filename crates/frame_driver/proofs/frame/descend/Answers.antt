@@ -30,5 +30,5 @@ returns c =
     descends_at _ _ _ _ _ _ _ _ (to_z-of_z w64 c.args.tol c.ranges.tol)
     (spends _ _ c.args.budget _ _ _ c.in-Step-2.field-0 (at_budget _ _ _ _ _ c.loop-taken.taken _ c.loop-taken.auto.taken-end c.loop-taken-test.false c.loop-taken.invariant.come) (rw c.in-Step-2.is at c.in_ok-next_at-2.ensures))
 
-pub energy-upper-requires-clause-pose : goal.energy-upper-requires-clause-pose
-energy-upper-requires-clause-pose c = subst (IsUpright c.args.setup.now) (sym c.in_ok-x.ensures) (pose_is_upright c.args.setup.now c.args.now.now c.requires.pose)
+pub energy-requires-clause-pose : goal.energy-requires-clause-pose
+energy-requires-clause-pose c = subst (IsUpright c.args.setup.now) (sym c.in_ok-x.ensures) (pose_is_upright c.args.setup.now c.args.now.now c.requires.pose)

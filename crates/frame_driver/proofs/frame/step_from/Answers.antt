@@ -11,7 +11,7 @@ use Rattle.frame_driver.proofs.frame.step_from.Goals as goal
 
 pub directions-requires : goal.directions-requires
 directions-requires c =
-    rw (c.len.ensures, c.as_slice.ensures.value, c.in_ok-diagonal.ensures, c.requires.slopes) (belong_together c.args.setup.now c.args.terms.now.frame c.args.x.now c.requires.ready.built c.requires.ready.pose.each)
+    rw (c.len.ensures, c.as_slice.ensures.value, c.in_ok-diagonal.ensures, c.requires.slopes) (belong_together c.args.setup.now c.args.terms.now.frame c.args.x.now c.requires.ready.built (pose_is_upright c.args.setup.now c.args.x.now c.requires.ready.pose))
 
 pub first_step-requires-clause-direction : goal.first_step-requires-clause-direction
 first_step-requires-clause-direction c =

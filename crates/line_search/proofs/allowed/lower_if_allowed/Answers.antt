@@ -1,4 +1,4 @@
-use Rattle.std.proofs.Common.{◌≡◌, ◌∙◌, ◌<◌, ◌<ℤ◌, ℕ, ℤ, pos, false, true, refl, inr, List, length, get_or, subst, sym, arith, to_z, of_z, FitsSigned}
+use Rattle.std.proofs.Common.{◌≡◌, ◌∙◌, ◌<◌, ◌<ℤ◌, ℕ, ℤ, pos, false, true, refl, inr, List, length, get_or, subst, sym, arith, to_z, of_z, FitsSigned, rules}
 use Rattle.std.specs.Prelude.{All, int_le}
 use Rattle.std.specs.Int.{w128}
 use Rattle.std.proofs.lemmas.Int.{ints, to_z-of_z}
@@ -29,8 +29,8 @@ differ e = cc
 nodes_there : (s : Setup) (x : List V3) → IsSetup s → length x ≡ length s.mesh.numbers → All (λ tet. HasNodes x tet.nodes) s.mesh.tets
 nodes_there s x built e = λ k d l. subst (λ (n : ℕ). All (λ node. node < n) (get_or s.mesh.tets k d).nodes) (sym e) (built.mesh_is_sound.tets k d l).there
 
-pub energy-lower-requires-clause-pose : goal.energy-lower-requires-clause-pose
-energy-lower-requires-clause-pose c = record {
+pub energy-requires-clause-pose : goal.energy-requires-clause-pose
+energy-requires-clause-pose c = record {
   each = c.requires.each;
   upright = subst (All (λ (tet : Tet). pos 0 <ℤ rest_determinant c.args.y.now tet.nodes)) c.items-tets.ensures (c.are_upright.ensures.0 c.if-not-are_upright.false);
   edges = subst (All (λ (tet : Tet). HasShortEdges c.args.y.now tet.nodes)) c.items-tets.ensures (c.are_short.ensures.0 c.if-not-are_short.false);
@@ -78,7 +78,8 @@ returns-then-not-branch-clause-tally c = inr (
 )
 
 pub returns-clause-allowed : goal.returns-clause-allowed
-returns-clause-allowed c = (
+returns-clause-allowed c =
+    let fits : FitsSigned w128 c.in_ok-lower.lower = search rules in (
   λ t. record {
     in_reach = record {
       in_box = c.requires.in_box;
@@ -88,7 +89,7 @@ returns-clause-allowed c = (
         certified_step c.args.setup.now c.args.x.now c.args.y.now
         (subst (All (HasCertificate c.args.x.now c.args.y.now)) c.items-tets.ensures (c.are_certified.ensures.0 c.if-not-are_certified.false))
         (c.in_ok-are_pairs_apart.ensures.apart.0 c.if-not-branch.false);
-    lower = below c.args.upper c.energy-lower.result _ _ c.ranges.upper (record { sfits = c.energy-lower.type_inv }) c.requires.upper c.energy-lower.ensures c.if-upper-lower.false;
+    lower = below c.args.upper c.in_ok-lower.lower _ _ c.ranges.upper fits c.requires.upper c.in_ok-lower.ensures c.if-upper-lower.false;
   },
   λ a. refl,
 )
