@@ -1,7 +1,7 @@
 -- How great the parts of a barrier are, and how many.
-use Rattle.std.proofs.Common.{◌≡◌, ◌∙◌, ℕ, ◌^◌, ℤ, pos, ◌*ℤ◌, neg_ℤ, Bool, true, false, List, length, map, take, drop, ap, arith}
+use Rattle.std.proofs.Common.{◌≡◌, ◌∙◌, ℕ, ◌^◌, ℤ, pos, ◌*ℤ◌, neg_ℤ, Bool, true, false, List, length, arith}
 use Rattle.std.specs.Prelude.{All, nat_lt, slice_index_or, if◌then◌else◌}
-use Rattle.std.proofs.lemmas.List.{length-append, length-map, take-append-drop}
+use Rattle.std.proofs.lemmas.List.{length-map}
 use Rattle.std.proofs.lemmas.List.Elements.{All-map}
 use Rattle.num_q.specs.Rounding.{floor_of}
 use Rattle.fixed_log.specs.Logarithm.{ln_ratio_of}
@@ -9,6 +9,7 @@ use Rattle.space3.specs.declared.vectors.V3.{V3}
 use Rattle.space3.specs.Vectors.{AtMost, Within, vector}
 use Rattle.vec_q.proofs.CutVectors.{cut_at_most, cuts_within}
 use Rattle.nearest.specs.SignedWeights.{signed_weights, signed_sum}
+use Rattle.nearest.proofs.Balance.{length-signed}
 use Rattle.near_pair.specs.declared.near.Near.{Near}
 use Rattle.near_pair.specs.Answers.{squared_distance}
 use Rattle.barrier_term.specs.Barrier.{barrier_energy, barrier_slope, depth, energy_at, if_active, reach_of}
@@ -22,11 +23,6 @@ energy_is_small kappa dhat near = either (nat_lt (squared_distance near) (reach_
     either true = let d = squared_distance near in let e = reach_of dhat in
         cut_at_most 90 (floor_of (kappa *ℤ depth d e *ℤ depth d e *ℤ neg_ℤ (ln_ratio_of d e)) (pos (2 ^ 40)))
     either false = record { bound = omega arith }
-
--- turning signs keeps the count
-length-signed : (split : ℕ) (weights : List ℤ) → length (signed_weights split weights) ≡ length weights
-length-signed split weights =
-    omega (arith, length-append (take split weights) (map neg_ℤ (drop split weights)), length-map (drop split weights) neg_ℤ, length-append (take split weights) (drop split weights), ap length (take-append-drop split weights))
 
 -- a pull at each weight
 pub as_many_pulls : (kappa dhat : ℤ) (near : Near) (split : ℕ) (points : List V3) → length (barrier_gradient kappa dhat near split points) ≡ length near.weights
