@@ -13,7 +13,8 @@ ghost use Rattle.nearest.specs.SignedWeights.{AreBalanced};
 ghost use Rattle.friction_lag.specs.declared.friction.TheConstants.{MOST_FRICTION};
 ghost use Rattle.friction_lag.specs.declared.smooth.TheConstants.{MOST_SLIP};
 ghost use Rattle.friction_lag.specs.Contacts.{length_of};
-ghost use Rattle.friction_lag.specs.Friction.{drag_of, friction_block, friction_energy, friction_gradient, pull, pull_at, slide_of, slip_of, smooth_length};
+ghost use Rattle.friction_lag.specs.Friction.{drag_of, pull, pull_at, slide_of, slip_of, smooth_length};
+ghost use Rattle.friction_lag.specs.Friction.{friction_block, friction_energy, friction_gradient};
 ghost use Rattle.friction_lag.specs.Lagged.{lagged_in};
 
 use crate::contacts::Contact;
@@ -80,7 +81,8 @@ pub fn friction_gradient(c: &Contact, friction: i64, slip: i64, x: &[V3; 4]) -> 
     requires slip { IsFrom (pos 1) MOST_SLIP slip }
     requires placed { All IsInTheBox x.now }
     ensures value { result ≡ map components (friction_gradient (lagged_in c.now) friction slip x.now) }
-    ensures cancelling { AlmostCancel (friction_gradient (lagged_in c.now) friction slip x.now) }
+    ensures cancelling { AlmostCancel
+        (friction_gradient (lagged_in c.now) friction slip x.now) }
 {
     let slide = slide_of(c, x);
     let drag = drag_of(c, friction, slip, slide);
@@ -160,7 +162,8 @@ pub fn friction_block(
     requires placed { All IsInTheBox x.now }
     requires first { i < 4 }
     requires second { j < 4 }
-    ensures { result ≡ rows_of (friction_block (lagged_in c.now) friction slip x.now i j) }
+    ensures { result ≡ rows_of
+        (friction_block (lagged_in c.now) friction slip x.now i j) }
 {
     let drag = drag_of(c, friction, slip, slide_of(c, x));
     let first = weight_at(&c.signed, i as usize);
