@@ -3,4 +3,5 @@ pub mod Beyond
 pub mod Examples
 pub mod Falling
 pub mod Pulls
+pub mod Sizes
 pub mod Steepness

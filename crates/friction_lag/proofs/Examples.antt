@@ -7,8 +7,7 @@ use Rattle.space3.specs.declared.vectors.V3.{V3}
 use Rattle.space3.specs.Vectors.{origin, vector, difference}
 use Rattle.vec_q.specs.Rows.{vector_of}
 use Rattle.nearest.specs.SignedWeights.{signed_sum}
-use Rattle.friction_lag.specs.declared.contacts.Contact.{Contact}
-use Rattle.friction_lag.specs.Contacts.{length_of}
+use Rattle.friction_lag.specs.Contacts.{LaggedContact, length_of}
 use Rattle.friction_lag.specs.Examples.{IsUpright, slid}
 use Rattle.friction_lag.specs.Friction.{across, pull_at, slip_of, smooth_length, smooth_rate, friction_energy, friction_gradient}
 
@@ -49,8 +48,8 @@ dragged i = floor_of (pos 128 *ℤ pos 1048576 *ℤ smooth_rate (length i) (slip
 pulled : slice_get (gradient_of weights places (pos 1048576) up) 0 ≡ Some (vector (pos 393216) (pos 0) (pos 0))
 pulled i = slice_get (map (pull_at (dragged i) (upright i)) weights) 0
 
-pub energy : (c : Contact) → IsUpright c → friction_energy c (pos 128) (pos 2) slid ≡ pos 567976
+pub energy : (c : LaggedContact) → IsUpright c → friction_energy c (pos 128) (pos 2) slid ≡ pos 567976
 energy c h = (λ i. energy_of (h.signed i) (h.from i) (h.force i) (h.normal i)) ∙ computed
 
-pub gradient : (c : Contact) → IsUpright c → slice_get (friction_gradient c (pos 128) (pos 2) slid) 0 ≡ Some (vector (pos 393216) (pos 0) (pos 0))
+pub gradient : (c : LaggedContact) → IsUpright c → slice_get (friction_gradient c (pos 128) (pos 2) slid) 0 ≡ Some (vector (pos 393216) (pos 0) (pos 0))
 gradient c h = (λ i. slice_get (gradient_of (h.signed i) (h.from i) (h.force i) (h.normal i)) 0) ∙ pulled

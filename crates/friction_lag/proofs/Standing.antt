@@ -13,8 +13,7 @@ use Rattle.space3.specs.Vectors.{origin, difference, dot_product}
 use Rattle.space3.proofs.Combinations.{same_vector}
 use Rattle.vec_q.specs.Rows.{vector_of}
 use Rattle.nearest.specs.SignedWeights.{signed_sum}
-use Rattle.friction_lag.specs.declared.contacts.Contact.{Contact}
-use Rattle.friction_lag.specs.Contacts.{length_of}
+use Rattle.friction_lag.specs.Contacts.{LaggedContact, length_of}
 use Rattle.friction_lag.specs.Friction.{across, slide_of, slip_of, smooth_length, friction_energy}
 use Rattle.friction_lag.proofs.SmoothLengths.{least_length}
 
@@ -39,10 +38,10 @@ no_slide n = same_vector _ _ (one n.x) (one n.y) (one n.z)
 no_length : length_of origin ≡ 0
 no_length = sym (root-is 0 0 (omega arith) (omega arith) (omega arith))
 
-standing : (c : Contact) → length_of (slide_of c c.from) ≡ 0
+standing : (c : LaggedContact) → length_of (slide_of c c.from) ≡ 0
 standing c = ap length_of (ap (across (vector_of c.normal)) (no_motion c.signed c.from) ∙ no_slide (vector_of c.normal)) ∙ no_length
 
-pub least_energy : (c : Contact) (friction slip : ℤ) (places : List V3) → pos 0 ≤ℤ (friction *ℤ c.force) → 65536 ≤ slip_of slip → friction_energy c friction slip c.from ≤ℤ friction_energy c friction slip places
+pub least_energy : (c : LaggedContact) (friction slip : ℤ) (places : List V3) → pos 0 ≤ℤ (friction *ℤ c.force) → 65536 ≤ slip_of slip → friction_energy c friction slip c.from ≤ℤ friction_energy c friction slip places
 least_energy c friction slip places load wide =
     subst (λ (n : ℕ). cut_of 90 (floor_of (friction *ℤ c.force *ℤ smooth_length n (slip_of slip)) (pos (2 ^ 24))) ≤ℤ friction_energy c friction slip places) (sym (standing c))
     (cut_mono 90 _ _ (floor_mono _ _ (pos (2 ^ 24)) (omega (arith, ints)) (scale_le_ℤ (friction *ℤ c.force) (smooth_length 0 (slip_of slip)) (smooth_length (length_of (slide_of c places)) (slip_of slip)) load (least_length _ (slip_of slip) wide))))

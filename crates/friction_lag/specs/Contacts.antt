@@ -6,8 +6,9 @@ use Rattle.fixed_log.specs.Root.{root_of}
 use Rattle.space3.specs.declared.vectors.V3.{V3}
 use Rattle.space3.specs.Vectors.{AtMost, vector, squared_length}
 use Rattle.space3.specs.Box.{IsInTheBox}
+use Rattle.vec_q.specs.Rows.{components}
 use Rattle.nearest.specs.declared.limits.TheConstants.{ONE}
-use Rattle.nearest.specs.SignedWeights.{AreBalanced}
+use Rattle.nearest.specs.SignedWeights.{AreBalanced, signed_sum, signed_weights}
 use Rattle.near_pair.specs.declared.near.Near.{Near}
 use Rattle.near_pair.specs.Answers.{squared_distance}
 
@@ -27,6 +28,26 @@ unit_along len c = if nat_eq len 0 then pos 0 else floor_of (c *ℤ pos ONE) (po
 abbrev pub normal_of : V3 → V3
 normal_of way =
     let len = length_of way in vector (unit_along len way.x) (unit_along len way.y) (unit_along len way.z)
+
+-- what a frame keeps of a contact
+pub record LaggedContact : Type 0 where
+  pub nodes : List ℕ
+  pub signed : List ℤ
+  pub from : List V3
+  pub force : ℤ
+  pub normal : List ℤ
+
+-- what it keeps of a pair with these nodes at the places `from`, of which the first part has `split`, by their nearest
+-- points and the slope of the barrier
+abbrev pub contact_of : (near : Near) (slope : ℤ) (split : ℕ) (nodes : List ℕ) (from : List V3) → LaggedContact
+contact_of near slope split nodes from =
+    let signed = signed_weights split near.weights in record {
+      nodes = nodes;
+      signed = signed;
+      from = from;
+      force = force_of slope near;
+      normal = components (normal_of (signed_sum signed from));
+    }
 
 -- signed weights, a force, a normal and places as a contact has them
 pub record IsContact (signed : List ℤ) (from : List V3) (force : ℤ) (normal : List ℤ) : Type 0 where

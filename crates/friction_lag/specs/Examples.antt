@@ -2,10 +2,10 @@
 use Rattle.std.specs.Prelude.{◌≡◌, pos, negsuc, [], ◌∷◌, List}
 use Rattle.space3.specs.declared.vectors.V3.{V3}
 use Rattle.space3.specs.Vectors.{origin, vector}
-use Rattle.friction_lag.specs.declared.contacts.Contact.{Contact}
+use Rattle.friction_lag.specs.Contacts.{LaggedContact}
 
 -- a force of 2^20 along z, between a point at the origin and another there
-pub record IsUpright (c : Contact) : Type 0 where
+pub record IsUpright (c : LaggedContact) : Type 0 where
   pub signed : c.signed ≡ pos 65536 ∷ negsuc 65535 ∷ pos 0 ∷ pos 0 ∷ []
   pub from : c.from ≡ origin ∷ origin ∷ origin ∷ origin ∷ []
   pub force : c.force ≡ pos 1048576

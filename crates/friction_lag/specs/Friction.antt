@@ -7,11 +7,10 @@ use Rattle.vec_q.specs.Matrices.{M3, unit_times}
 use Rattle.vec_q.specs.Rows.{vector_of}
 use Rattle.nearest.specs.declared.limits.TheConstants.{ONE}
 use Rattle.nearest.specs.SignedWeights.{signed_sum}
-use Rattle.friction_lag.specs.declared.contacts.Contact.{Contact}
-use Rattle.friction_lag.specs.Contacts.{length_of}
+use Rattle.friction_lag.specs.Contacts.{LaggedContact, length_of}
 
 -- how far the first part moved past the second, at the contact's weights
-abbrev pub motion_of : Contact → List V3 → V3
+abbrev pub motion_of : LaggedContact → List V3 → V3
 motion_of c places = signed_sum c.signed (map (λ pair. difference pair.0 pair.1) (zip places c.from))
 
 -- a motion without its part along the normal
@@ -22,7 +21,7 @@ across normal motion =
     vector (rest motion.x normal.x) (rest motion.y normal.y) (rest motion.z normal.z)
 
 -- the slide in the contact's plane
-abbrev pub slide_of : Contact → List V3 → V3
+abbrev pub slide_of : LaggedContact → List V3 → V3
 slide_of c places = across (vector_of c.normal) (motion_of c places)
 
 -- the slide from which on friction is that of sliding
@@ -44,10 +43,10 @@ smooth_rate y e =
     if nat_lt y e then floor_of ((pos 2 *ℤ E -ℤ Y) *ℤ pos (2 ^ 40)) (E *ℤ E) else floor_of (pos (2 ^ 40)) Y
 
 -- the force of friction over the slide
-abbrev pub drag_of : Contact → (friction slip : ℤ) → V3 → ℤ
+abbrev pub drag_of : LaggedContact → (friction slip : ℤ) → V3 → ℤ
 drag_of c friction slip slide = floor_of (friction *ℤ c.force *ℤ smooth_rate (length_of slide) (slip_of slip)) (pos (2 ^ 16))
 
-abbrev pub friction_energy : Contact → (friction slip : ℤ) → List V3 → ℤ
+abbrev pub friction_energy : LaggedContact → (friction slip : ℤ) → List V3 → ℤ
 friction_energy c friction slip places =
     let slide = slide_of c places in
     cut_of 90 (floor_of (friction *ℤ c.force *ℤ smooth_length (length_of slide) (slip_of slip)) (pos (2 ^ 24)))
@@ -60,12 +59,12 @@ abbrev pub pull_at : ℤ → V3 → ℤ → V3
 pull_at drag slide weight = vector (pull drag slide.x weight) (pull drag slide.y weight) (pull drag slide.z weight)
 
 -- at each of the four points
-abbrev pub friction_gradient : Contact → (friction slip : ℤ) → List V3 → List V3
+abbrev pub friction_gradient : LaggedContact → (friction slip : ℤ) → List V3 → List V3
 friction_gradient c friction slip places =
     let slide = slide_of c places in map (pull_at (drag_of c friction slip slide) slide) c.signed
 
 -- the block of the points i and j: the whole identity, and not the plane alone
-abbrev pub friction_block : Contact → (friction slip : ℤ) → List V3 → (i j : ℕ) → M3
+abbrev pub friction_block : LaggedContact → (friction slip : ℤ) → List V3 → (i j : ℕ) → M3
 friction_block c friction slip places i j =
     let weight = λ (k : ℕ). slice_index_or c.signed k (pos 0) in
     unit_times (cut_of 86 (floor_of (drag_of c friction slip (slide_of c places) *ℤ weight i *ℤ weight j) (pos (2 ^ 48))))

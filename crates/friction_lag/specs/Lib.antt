@@ -1,3 +1,4 @@
 pub mod Contacts
 pub mod Examples
 pub mod Friction
+pub mod Lagged

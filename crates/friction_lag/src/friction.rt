@@ -13,7 +13,9 @@ ghost use Rattle.nearest.specs.SignedWeights.{AreBalanced};
 ghost use Rattle.friction_lag.specs.declared.friction.TheConstants.{MOST_FRICTION};
 ghost use Rattle.friction_lag.specs.declared.smooth.TheConstants.{MOST_SLIP};
 ghost use Rattle.friction_lag.specs.Contacts.{length_of};
-ghost use Rattle.friction_lag.specs.Friction.{drag_of, friction_block, friction_energy, friction_gradient, pull, pull_at, slide_of, slip_of, smooth_length};
+ghost use Rattle.friction_lag.specs.Friction.{drag_of, pull, pull_at, slide_of, slip_of, smooth_length};
+ghost use Rattle.friction_lag.specs.Friction.{friction_block, friction_energy, friction_gradient};
+ghost use Rattle.friction_lag.specs.Lagged.{lagged_in};
 
 use crate::contacts::Contact;
 use crate::normal::length_of;
@@ -33,8 +35,8 @@ pub fn friction_energy(c: &Contact, friction: i64, slip: i64, x: &[V3; 4]) -> i1
     requires friction { IsFrom (pos 0) MOST_FRICTION friction }
     requires slip { IsFrom (pos 1) MOST_SLIP slip }
     requires placed { All IsInTheBox x.now }
-    ensures value { result ≡ friction_energy c.now friction slip x.now }
-    ensures least { friction_energy c.now friction slip c.now.from ≤ℤ result }
+    ensures value { result ≡ friction_energy (lagged_in c.now) friction slip x.now }
+    ensures least { friction_energy (lagged_in c.now) friction slip c.now.from ≤ℤ result }
     ensures small { unsigned_abs result < 2 ^ 90 }
 {
     energy_number(c, friction, slip, x).raw()
@@ -44,8 +46,8 @@ fn energy_number(c: &Contact, friction: i64, slip: i64, x: &[V3; 4]) -> Q<1, 90>
     requires friction { IsFrom (pos 0) MOST_FRICTION friction }
     requires slip { IsFrom (pos 1) MOST_SLIP slip }
     requires placed { All IsInTheBox x.now }
-    ensures value { result.raw ≡ friction_energy c.now friction slip x.now }
-    ensures least { friction_energy c.now friction slip c.now.from ≤ℤ result.raw }
+    ensures value { result.raw ≡ friction_energy (lagged_in c.now) friction slip x.now }
+    ensures least { friction_energy (lagged_in c.now) friction slip c.now.from ≤ℤ result.raw }
 {
     let y = length_of(slide_of(c, x));
     energy_along(load_of(c, friction), smooth_length(y, slip_of(slip)))
@@ -78,8 +80,9 @@ pub fn friction_gradient(c: &Contact, friction: i64, slip: i64, x: &[V3; 4]) -> 
     requires friction { IsFrom (pos 0) MOST_FRICTION friction }
     requires slip { IsFrom (pos 1) MOST_SLIP slip }
     requires placed { All IsInTheBox x.now }
-    ensures value { result ≡ map components (friction_gradient c.now friction slip x.now) }
-    ensures cancelling { AlmostCancel (friction_gradient c.now friction slip x.now) }
+    ensures value { result ≡ map components (friction_gradient (lagged_in c.now) friction slip x.now) }
+    ensures cancelling { AlmostCancel
+        (friction_gradient (lagged_in c.now) friction slip x.now) }
 {
     let slide = slide_of(c, x);
     let drag = drag_of(c, friction, slip, slide);
@@ -90,7 +93,7 @@ pub fn friction_gradient(c: &Contact, friction: i64, slip: i64, x: &[V3; 4]) -> 
 fn drag_of(c: &Contact, friction: i64, slip: i64, slide: VecQ<16, 41>) -> Q<17, 80>
     requires friction { IsFrom (pos 0) MOST_FRICTION friction }
     requires slip { IsFrom (pos 1) MOST_SLIP slip }
-    ensures { result.raw ≡ drag_of c.now friction slip (raws slide) }
+    ensures { result.raw ≡ drag_of (lagged_in c.now) friction slip (raws slide) }
 {
     let rate = smooth_rate(length_of(slide), slip_of(slip));
     drag_along(load_of(c, friction), rate)
@@ -159,7 +162,8 @@ pub fn friction_block(
     requires placed { All IsInTheBox x.now }
     requires first { i < 4 }
     requires second { j < 4 }
-    ensures { result ≡ rows_of (friction_block c.now friction slip x.now i j) }
+    ensures { result ≡ rows_of
+        (friction_block (lagged_in c.now) friction slip x.now i j) }
 {
     let drag = drag_of(c, friction, slip, slide_of(c, x));
     let first = weight_at(&c.signed, i as usize);

@@ -3,10 +3,9 @@ ghost use Rattle.std.specs.Prelude.{◌≡◌, ◌<◌, ◌*◌, ◌^◌, All, p
 ghost use Rattle.num_q.specs.Rounding.{cut_of, floor_of};
 ghost use Rattle.fixed_log.specs.Root.{root_of};
 ghost use Rattle.space3.specs.Box.{IsInTheBox};
-ghost use Rattle.vec_q.specs.Rows.{components};
-ghost use Rattle.nearest.specs.SignedWeights.{signed_weights, signed_sum};
 ghost use Rattle.near_pair.specs.Answers.{IsBounded, IsOn, squared_distance};
-ghost use Rattle.friction_lag.specs.Contacts.{force_of, normal_of};
+ghost use Rattle.friction_lag.specs.Contacts.{contact_of, force_of};
+ghost use Rattle.friction_lag.specs.Lagged.{lagged_in};
 
 use crate::contacts::Contact;
 use crate::normal::normal_of;
@@ -24,11 +23,7 @@ pub fn contact(near: &Near, slope: i128, split: u8, nodes: [u32; 4], from: [V3; 
     requires placed { All IsInTheBox from }
     requires pulling { slope ≤ℤ pos 0 }
     requires slope { unsigned_abs slope < 2 ^ 73 }
-    ensures nodes { result.nodes ≡ nodes }
-    ensures signed { result.signed ≡ signed_weights split near.now.weights }
-    ensures from { result.from ≡ from }
-    ensures force { result.force ≡ force_of slope near.now }
-    ensures normal { result.normal ≡ components (normal_of (signed_sum (signed_weights split near.now.weights) from)) }
+    ensures { lagged_in result ≡ contact_of near.now slope split nodes from }
 {
     let signed = near.signed_weights(split);
     let normal = normal_of(near.way(split, &from));

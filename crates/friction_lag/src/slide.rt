@@ -8,6 +8,7 @@ ghost use Rattle.vec_q.specs.Raws.{raws};
 ghost use Rattle.vec_q.specs.Rows.{vector_of};
 ghost use Rattle.nearest.specs.declared.limits.TheConstants.{ONE};
 ghost use Rattle.friction_lag.specs.Friction.{across, motion_of, slide_of};
+ghost use Rattle.friction_lag.specs.Lagged.{lagged_in};
 
 use crate::contacts::Contact;
 use near_pair::weight_at;
@@ -18,7 +19,7 @@ use vec_q::{VecQ, edge_between};
 /// The slide in the contact's plane since the frame began.
 pub fn slide_of(c: &Contact, x: &[V3; 4]) -> VecQ<16, 41>
     requires { All IsInTheBox x.now }
-    ensures { raws result ≡ slide_of c.now x.now }
+    ensures { raws result ≡ slide_of (lagged_in c.now) x.now }
 {
     across(normal_number(&c.normal), motion_of(c, x))
 }
@@ -38,7 +39,7 @@ fn normal_number(normal: &[i64; 3]) -> VecQ<16, 17>
 // How far the first part moved past the second.
 fn motion_of(c: &Contact, x: &[V3; 4]) -> VecQ<16, 39>
     requires { All IsInTheBox x.now }
-    ensures value { raws result ≡ motion_of c.now x.now }
+    ensures value { raws result ≡ motion_of (lagged_in c.now) x.now }
     ensures bound { Within (2 ^ 38) (raws result) }
 {
     let two: VecQ<16, 40> = weighted_motion(c, x, 2).add_into(weighted_motion(c, x, 3));

@@ -1,8 +1,9 @@
--- Signed weights are balanced, and none is greater than 1.
-use Rattle.std.proofs.Common.{◌≡◌, ℕ, ◌≤◌, ℤ, pos, ◌+ℤ◌, neg_ℤ, ◌≤ℤ◌, List, [], ◌∷◌, ◌++◌, map, take, drop, unsigned_abs, refl, ◌∙◌, ap, arith}
+-- Signed weights are balanced, none is greater than 1, and there are as many as weights.
+use Rattle.std.proofs.Common.{◌≡◌, ℕ, ◌≤◌, ℤ, pos, ◌+ℤ◌, neg_ℤ, ◌≤ℤ◌, List, [], ◌∷◌, ◌++◌, length, map, take, drop, unsigned_abs, refl, ◌∙◌, ap, arith}
 use Rattle.std.proofs.lemmas.Int.{ints, clamps}
 use Rattle.std.specs.Prelude.{All}
 use Rattle.std.specs.Int.{int_min, int_max}
+use Rattle.std.proofs.lemmas.List.{length-append, length-map, take-append-drop}
 use Rattle.std.proofs.lemmas.List.Elements.{All-nil, All-cons, All-head, All-tail, All-weaker}
 use Rattle.space3.specs.Vectors.{AtMost}
 use Rattle.nearest.specs.declared.limits.TheConstants.{ONE}
@@ -130,3 +131,8 @@ total-zero weights h = split_total weights ∙ together _ _ h.above h.below
 
     together : (a b : ℤ) → a ≡ pos 65536 → b ≡ neg_ℤ (pos 65536) → a +ℤ b ≡ pos 0
     together a b e f = omega (arith, ints)
+
+-- turning signs keeps the count
+pub length-signed : (split : ℕ) (weights : List ℤ) → length (signed_weights split weights) ≡ length weights
+length-signed split weights =
+    omega (arith, length-append (take split weights) (map neg_ℤ (drop split weights)), length-map (drop split weights) neg_ℤ, length-append (take split weights) (drop split weights), ap length (take-append-drop split weights))

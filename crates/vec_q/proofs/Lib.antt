@@ -1,4 +1,5 @@
 pub mod Adjugates
 pub mod Associative
+pub mod CutVectors
 pub mod Products
 pub mod Sizes

@@ -4,6 +4,7 @@ use Rattle.num_q.specs.Rounding.{cut_of, floor_of}
 use Rattle.whole_laws.proofs.Order.{mul_nonneg_ℤ}
 use Rattle.friction_lag.specs.Contacts.{length_of}
 use Rattle.friction_lag.specs.Friction.{friction_energy, slip_of, smooth_length}
+use Rattle.friction_lag.specs.Lagged.{lagged_in}
 use Rattle.friction_lag.proofs.Standing.{least_energy, wide_slip}
 use Rattle.friction_lag.proofs.friction.energy_number.Goals as goal
 
@@ -17,5 +18,5 @@ returns-clause-value c =
 
 pub returns-clause-least : goal.returns-clause-least
 returns-clause-least c =
-    subst (λ (z : ℤ). friction_energy c.args.c.now c.args.friction c.args.slip c.args.c.now.from ≤ℤ z) (sym (returns-clause-value c))
-    (least_energy c.args.c.now c.args.friction c.args.slip c.args.x.now (mul_nonneg_ℤ c.args.friction c.args.c.now.force c.requires.friction.low c.args.c.now.contact.pressing.low) (wide_slip c.args.slip c.requires.slip.low))
+    subst (λ (z : ℤ). friction_energy (lagged_in c.args.c.now) c.args.friction c.args.slip c.args.c.now.from ≤ℤ z) (sym (returns-clause-value c))
+    (least_energy (lagged_in c.args.c.now) c.args.friction c.args.slip c.args.x.now (mul_nonneg_ℤ c.args.friction c.args.c.now.force c.requires.friction.low c.args.c.now.contact.pressing.low) (wide_slip c.args.slip c.requires.slip.low))
