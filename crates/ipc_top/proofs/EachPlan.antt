@@ -45,21 +45,21 @@ takes_each {X} Q name limit Means file Next plan each text next takes =
 
 job_each : (Q : Plan → Type 0) (job : Job) (seen : Seen) (plan : Plan) → OfEach Q → JobCallsFor job seen plan → Q plan
 job_each Q job seen plan each takes =
-    takes_each Q job.mesh MESH_LIMIT (MeshMeans job.numbers) (get (seen roles.Mesh) job.mesh) (λ setup. Moves job setup (first_start job setup)) plan each
-    (mesh_refusal Q (each.six _) (λ mesh err. each.six _) (λ setup defect. each.seven _) job.numbers) moved takes
+    takes_each Q job.mesh MESH_LIMIT (MeshMeans job) (get (seen roles.Mesh) job.mesh) (λ setup. Moves job setup (first_start job setup)) plan each
+    (mesh_refusal Q (λ fault. each.six _) (λ mesh err. each.six _) (λ setup defect. each.seven _) job) moved takes
   where
     moves_of : (setup : Setup) (rest : Plan) (mesh : Mesh) (surface : SurfaceLists) → setup ≡ setup_of mesh surface job.numbers → IsFirstDefect setup None → Moves job setup (first_start job setup) rest → Q rest
     moves_of setup rest mesh surface built none moves =
         let there : Moves job (setup_of mesh surface job.numbers) (first_start job (setup_of mesh surface job.numbers)) rest = subst (λ (s : Setup). Moves job s (first_start job s) rest) built moves in
         subst Q (sym there.same) (each.moves job mesh surface there.frames (subst (λ (s : Setup). IsFirstDefect s None) built none) there.are)
 
-    moved : (setup : Setup) (o : Outcome Setup) → FileMeans job.mesh MESH_LIMIT (MeshMeans job.numbers) (get (seen roles.Mesh) job.mesh) o → o ≡ Accepted setup → (rest : Plan) → Moves job setup (first_start job setup) rest → Q rest
+    moved : (setup : Setup) (o : Outcome Setup) → FileMeans job.mesh MESH_LIMIT (MeshMeans job) (get (seen roles.Mesh) job.mesh) o → o ≡ Accepted setup → (rest : Plan) → Moves job setup (first_start job setup) rest → Q rest
     moved setup o means is rest moves =
-        let found = file_accepted job.mesh MESH_LIMIT job.numbers (get (seen roles.Mesh) job.mesh) o setup means is in
+        let found = file_accepted job.mesh MESH_LIMIT job (get (seen roles.Mesh) job.mesh) o setup means is in
         moves_of setup rest found.1.mesh found.1.surface found.1.built found.1.none moves
 
 pub each_plan : (Q : Plan → Type 0) (command : Command) (seen : Seen) (plan : Plan) → OfEach Q → CommandCallsFor (Some command) seen plan → Q plan
-each_plan Q (Check mesh out) seen plan each h = job_each Q (check_job mesh out) seen plan each h
+each_plan Q (Check digits mesh out) seen plan each h = job_each Q (check_job digits mesh out) seen plan each h
 each_plan Q (RunScene name) seen plan each h =
     takes_each Q name SCENE_LIMIT SceneMeans (get (seen roles.Scene) name) (λ scene. JobCallsFor (scene_job scene) seen) plan each
     (scene_refusal Q (λ err. each.five _))

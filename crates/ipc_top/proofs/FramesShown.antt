@@ -147,11 +147,11 @@ shows_stopped {old = old} {new = new} job setup now frames (Err e) is stops =
 -- ---- one frame
 
 -- the acts of a frame that was computed
-pub acts_are : (job : Job) (old new : SimState) (number : ℕ) (end : FrameEnd) (frame : Frame) (name text line : List ℕ) → Advances end old new → AreNext old 1 (frame ∷ []) → name ≡ frame_name job.out number → text ≡ frame_text new.setup.mesh new.places → line ≡ frame_line number end → Put name text ∷ Say line ∷ [] ≡ acts_of_frame job old.setup number old.places frame
+pub acts_are : (job : Job) (old new : SimState) (number : ℕ) (end : FrameEnd) (frame : Frame) (name text line : List ℕ) → Advances end old new → AreNext old 1 (frame ∷ []) → name ≡ frame_name job.out number → text ≡ frame_text new.setup.mesh new.places job.digits → line ≡ frame_line number end → Put name text ∷ Say line ∷ [] ≡ acts_of_frame job old.setup number old.places frame
 acts_are job old new number end frame name text line h next by_name by_text by_line =
     let passes = advance_passes end old new frame [] h next.path in
-    let whole : text ≡ frame_text old.setup.mesh (last_after old.places frame.steps) =
-    by_text ∙ (λ i. frame_text (passes.stands i).setup.mesh (passes.stands i).places) in
+    let whole : text ≡ frame_text old.setup.mesh (last_after old.places frame.steps) job.digits =
+    by_text ∙ (λ i. frame_text (passes.stands i).setup.mesh (passes.stands i).places job.digits) in
     let said : line ≡ frame_line number frame.end = by_line ∙ ap (frame_line number) passes.same_end in
     λ i. Put (by_name i) (whole i) ∷ Say (said i) ∷ []
 

@@ -31,7 +31,7 @@ abbrev pub next_of : Job → Setup → Plan → Type 0
 next_of job setup = Moves job setup (first_start job setup)
 
 -- its mesh was not taken, or was refused
-pub job_ended : {old new : World} (job : Job) (end : End) (result : Result ℕ End) → IsErrAnd result (λ e. e ≡ end) → Takes job.mesh MESH_LIMIT (MeshMeans job.numbers) (Err end) old new → Obeys (JobCallsFor job) result old new
+pub job_ended : {old new : World} (job : Job) (end : End) (result : Result ℕ End) → IsErrAnd result (λ e. e ≡ end) → Takes job.mesh MESH_LIMIT (MeshMeans job) (Err end) old new → Obeys (JobCallsFor job) result old new
 job_ended {old} {new} job end result is taken =
     let files = files_with old.shelf.files job.mesh taken.file in
     let there = file_with old.shelf.files job.mesh taken.file taken.told in
@@ -42,7 +42,7 @@ job_ended {old} {new} job end result is taken =
       plan = then_plan (Take job.mesh ∷ []) rest.plan;
       called = record {
         outcome = taken.outcome;
-        means = subst (λ (o : Option (List ℕ)). FileMeans job.mesh MESH_LIMIT (MeshMeans job.numbers) o taken.outcome) (sym there) taken.means;
+        means = subst (λ (o : Option (List ℕ)). FileMeans job.mesh MESH_LIMIT (MeshMeans job) o taken.outcome) (sym there) taken.means;
         rest = rest.plan;
         continues = rest.continues;
         same = refl;
@@ -51,12 +51,12 @@ job_ended {old} {new} job end result is taken =
     }
 
 -- its mesh was taken, and its bodies moved on
-pub job_moved : {old mid new : World} (job : Job) (setup : Setup) (result : Result ℕ End) → Takes job.mesh MESH_LIMIT (MeshMeans job.numbers) (Ok setup) old mid
+pub job_moved : {old mid new : World} (job : Job) (setup : Setup) (result : Result ℕ End) → Takes job.mesh MESH_LIMIT (MeshMeans job) (Ok setup) old mid
     → FollowsOne (next_of (record job { numbers = setup.numbers }) setup) result mid new → Obeys (JobCallsFor job) result old new
 job_moved {old} {mid} {new} job setup result taken moved =
     let files = files_with old.shelf.files job.mesh taken.file in
     let there = file_with old.shelf.files job.mesh taken.file taken.told in
-    let found = file_accepted job.mesh MESH_LIMIT job.numbers taken.file taken.outcome setup taken.means taken.answers.0 in
+    let found = file_accepted job.mesh MESH_LIMIT job taken.file taken.outcome setup taken.means taken.answers.0 in
     let numbers : setup.numbers ≡ job.numbers = ap (λ (s : Setup). s.numbers) found.1.built in
     let called : next_of job setup moved.plan = subst (λ (n : Numbers). next_of (record job { numbers = n }) setup moved.plan) numbers moved.called in
     record {
@@ -65,7 +65,7 @@ job_moved {old} {mid} {new} job setup result taken moved =
       plan = then_plan (Take job.mesh ∷ []) moved.plan;
       called = record {
         outcome = taken.outcome;
-        means = subst (λ (o : Option (List ℕ)). FileMeans job.mesh MESH_LIMIT (MeshMeans job.numbers) o taken.outcome) (sym there) taken.means;
+        means = subst (λ (o : Option (List ℕ)). FileMeans job.mesh MESH_LIMIT (MeshMeans job) o taken.outcome) (sym there) taken.means;
         rest = moved.plan;
         continues = subst (λ (o : Outcome Setup). Continues o (next_of job) moved.plan) (sym taken.answers.0) called;
         same = refl;
@@ -131,8 +131,8 @@ job_named {old} {new} job mesh out tol result e h t ends = subst (λ (j : Job). 
 
 -- ---- a check is a job
 
-pub check_done : {old new : World} (mesh out : List ℕ) (numbers : Numbers) (result : Result ℕ End) → numbers ≡ check_numbers → Obeys (JobCallsFor (record (check_job mesh out) { numbers = numbers })) result old new → Obeys (CommandCallsFor (Some (Check mesh out))) result old new
-check_done {old} {new} mesh out numbers result e done = subst (λ (n : Numbers). Obeys (JobCallsFor (record (check_job mesh out) { numbers = n })) result old new) e done
+pub check_done : {old new : World} (digits : ℕ) (mesh out : List ℕ) (numbers : Numbers) (result : Result ℕ End) → numbers ≡ check_numbers → Obeys (JobCallsFor (record (check_job digits mesh out) { numbers = numbers })) result old new → Obeys (CommandCallsFor (Some (Check digits mesh out))) result old new
+check_done {old} {new} digits mesh out numbers result e done = subst (λ (n : Numbers). Obeys (JobCallsFor (record (check_job digits mesh out) { numbers = n })) result old new) e done
 
 -- ---- words
 

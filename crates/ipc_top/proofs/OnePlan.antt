@@ -43,11 +43,11 @@ one_taking {X} name limit Means file Next one_text one_next a b p q =
 
 one_job_plan : (job : Job) (seen : Seen) (a b : Plan) → JobCallsFor job seen a → JobCallsFor job seen b → a ≡ b
 one_job_plan job seen =
-    one_taking job.mesh MESH_LIMIT (MeshMeans job.numbers) (get (seen roles.Mesh) job.mesh) (λ setup. Moves job setup (first_start job setup)) (one_mesh_outcome job.numbers) (λ setup. one_moves job setup (first_start job setup))
+    one_taking job.mesh MESH_LIMIT (MeshMeans job) (get (seen roles.Mesh) job.mesh) (λ setup. Moves job setup (first_start job setup)) (one_mesh_outcome job) (λ setup. one_moves job setup (first_start job setup))
 
 one_command_plan : (command : Option Command) (seen : Seen) (a b : Plan) → CommandCallsFor command seen a → CommandCallsFor command seen b → a ≡ b
 one_command_plan None seen a b p q = p ∙ sym q
-one_command_plan (Some (Check mesh out)) seen a b p q = one_job_plan (check_job mesh out) seen a b p q
+one_command_plan (Some (Check digits mesh out)) seen a b p q = one_job_plan (check_job digits mesh out) seen a b p q
 one_command_plan (Some (RunScene name)) seen a b p q =
     one_taking name SCENE_LIMIT SceneMeans (get (seen roles.Scene) name) (λ scene. JobCallsFor (scene_job scene) seen) (λ bytes x y m n. m ∙ sym n) (λ scene. one_job_plan (scene_job scene) seen) a b p q
 
@@ -98,4 +98,4 @@ some_taking name limit Means file Next some_text some_next =
 
 pub some_job_plan : (job : Job) (seen : Seen) → SomePlan (JobCallsFor job seen)
 some_job_plan job seen =
-    some_taking job.mesh MESH_LIMIT (MeshMeans job.numbers) (get (seen roles.Mesh) job.mesh) (λ setup. Moves job setup (first_start job setup)) (some_mesh job.numbers) (λ setup. some_moves job setup (first_start job setup))
+    some_taking job.mesh MESH_LIMIT (MeshMeans job) (get (seen roles.Mesh) job.mesh) (λ setup. Moves job setup (first_start job setup)) (some_mesh job) (λ setup. some_moves job setup (first_start job setup))

@@ -1,15 +1,10 @@
 -- What comes of a file: always one thing, and only one.
-use Rattle.std.proofs.Common.{◌≡◌, ◌<◌, ◌≤◌, ◌+◌, ℕ, refl, ap, sym, subst, ◌∙◌, List, [], ◌∷◌, length, All, Option, Some, None, Result, Ok, Err, arith}
+use Rattle.std.proofs.Common.{◌≡◌, ◌<◌, ◌≤◌, ◌+◌, ℕ, refl, ap, sym, subst, ◌∙◌, List, [], ◌∷◌, length, ◌⊎◌, inl, inr, Option, Some, None, Result, Ok, Err, arith}
 use Rattle.std.proofs.Math.Decide.{dec_le}
-use Rattle.space3.specs.declared.vectors.V3.{V3}
-use Rattle.space3.specs.declared.lists.Tet.{Tet}
 use Rattle.space3.specs.declared.mesh.Mesh.{Mesh}
-use Rattle.space3.specs.declared.places.TheConstants.{BOX_LIMIT}
-use Rattle.space3.specs.Box.{IsInTheBox}
-use Rattle.line_fields.specs.Lines.{rows}
-use Rattle.msh_text.specs.Calls.Sections.{Nodes, sections_at}
-use Rattle.msh_text.proofs.WhatIsMeantIsRead.{one_mesh, no_mesh, no_mesh-outside}
-use Rattle.msh_text.proofs.WhatIsReadIsMeant.{sections_mean}
+use Rattle.msh_text.specs.declared.refusal.MshErr.{MshErr}
+use Rattle.msh_text.specs.Texts.{TextMeans, IsTextFault}
+use Rattle.msh_text.proofs.Meaning.{means_or_fault_of, never_both_of, one_mesh_of, one_fault_of}
 use Rattle.surface_mesh.specs.declared.setup.Setup.{Setup}
 use Rattle.surface_mesh.specs.declared.materials.Numbers.{Numbers}
 use Rattle.surface_mesh.specs.Setup.{setup_of}
@@ -23,16 +18,15 @@ use Rattle.boundary.proofs.SomeOutcome.{some_surface_outcome}
 use Rattle.mesh_check.specs.declared.defects.Defect.{Defect}
 use Rattle.mesh_check.specs.Defects.{IsFirstDefect}
 use Rattle.mesh_check.proofs.OneDefect.{one_defect, some_defect}
-use Rattle.list_laws.proofs.Decisions.{dec_All}
 use Rattle.scene_toml.specs.declared.scene.Scene.{Scene}
 use Rattle.scene_toml.specs.declared.refusal.SceneErr.{SceneErr}
 use Rattle.scene_toml.specs.Scenes.{scene_of_text}
-use Rattle.frame_driver.proofs.DecidedSteps.{dec_Within}
 use Rattle.ipc_top.specs.Acts.{Say}
 use Rattle.ipc_top.specs.CallsFor.{SceneMeans, scene_outcome}
 use Rattle.ipc_top.specs.Files.{Outcome, Accepted, Refused, FileMeans, Missing, TooLong, Whole}
+use Rattle.ipc_top.specs.Jobs.{Job}
 use Rattle.ipc_top.specs.Lines.{too_long_line, mesh_refused_line, defect_line, scene_refused_line, surface_refused_line}
-use Rattle.ipc_top.specs.Meshes.{Means, MeshMakes, NoSurface, Bodies, MeshMeans, NoMesh, OfMesh, SetupMeans, defect_plan, mesh_refused_plan, outcome_of, surface_refused_plan}
+use Rattle.ipc_top.specs.Meshes.{MeshMakes, NoSurface, Bodies, MeshMeans, NoMesh, OfMesh, SetupMeans, defect_plan, mesh_refused_plan, outcome_of, surface_refused_plan}
 use Rattle.ipc_top.specs.Plans.{Plan, plan_of}
 use Rattle.ipc_top.proofs.ActsDone.{due_first}
 use Rattle.ipc_top.proofs.Taking.{OnRefused, IsTextRefusal}
@@ -130,61 +124,51 @@ one_making numbers mesh a b (Bodies surface usable means) (Bodies surface' usabl
 
 -- ---- a mesh's text
 
-pub mesh_refusal : (Q : Plan → Type 0) → Q mesh_refused_plan → ((mesh : Mesh) (err : SurfErr) → Q (surface_refused_plan mesh err)) → ((setup : Setup) (defect : Defect) → Q (defect_plan setup defect)) → (numbers : Numbers) (bytes : List ℕ) (o : Outcome Setup) → MeshMeans numbers bytes o → OnRefused Q o
-mesh_refusal Q text six seven numbers bytes o (NoMesh none is) = subst (λ (x : Outcome Setup). OnRefused Q x) (sym is) text
-mesh_refusal Q text six seven numbers bytes o (OfMesh mesh means makes) = makes_refusal Q six seven numbers mesh o makes
+pub mesh_refusal : (Q : Plan → Type 0) → ((fault : MshErr) → Q (mesh_refused_plan fault)) → ((mesh : Mesh) (err : SurfErr) → Q (surface_refused_plan mesh err)) → ((setup : Setup) (defect : Defect) → Q (defect_plan setup defect)) → (job : Job) (bytes : List ℕ) (o : Outcome Setup) → MeshMeans job bytes o → OnRefused Q o
+mesh_refusal Q text six seven job bytes o (NoMesh fault first is) = subst (λ (x : Outcome Setup). OnRefused Q x) (sym is) (text fault)
+mesh_refusal Q text six seven job bytes o (OfMesh mesh means makes) = makes_refusal Q six seven job.numbers mesh o makes
 
-pub mesh_texts : (numbers : Numbers) (bytes : List ℕ) (o : Outcome Setup) → MeshMeans numbers bytes o → OnRefused IsTextRefusal o
-mesh_texts = mesh_refusal IsTextRefusal (record { due = due_first (Say mesh_refused_line) []; not_ten = λ e. omega arith }) surface_is_told defect_is_told
+fault_is_told : (fault : MshErr) → IsTextRefusal (mesh_refused_plan fault)
+fault_is_told fault = record { due = due_first (Say (mesh_refused_line fault)) []; not_ten = λ e. omega arith }
+
+pub mesh_texts : (job : Job) (bytes : List ℕ) (o : Outcome Setup) → MeshMeans job bytes o → OnRefused IsTextRefusal o
+mesh_texts = mesh_refusal IsTextRefusal fault_is_told surface_is_told defect_is_told
 
 -- bodies that are accepted are those of the text's mesh and its surface, and have no defect
-pub record IsAccepted (numbers : Numbers) (bytes : List ℕ) (setup : Setup) : Type 0 where
+pub record IsAccepted (job : Job) (bytes : List ℕ) (setup : Setup) : Type 0 where
   pub mesh : Mesh
   pub surface : SurfaceLists
-  pub means : Means bytes mesh
-  pub built : setup ≡ setup_of mesh surface numbers
+  pub means : TextMeans bytes job.digits job.snap mesh
+  pub built : setup ≡ setup_of mesh surface job.numbers
   pub none : IsFirstDefect setup None
 
-pub accepted : (numbers : Numbers) (bytes : List ℕ) (o : Outcome Setup) (setup : Setup) → MeshMeans numbers bytes o → o ≡ Accepted setup → IsAccepted numbers bytes setup
-accepted numbers bytes o setup (NoMesh none is) e = absurd cc
-accepted numbers bytes o setup (OfMesh mesh means makes) e = made makes
+pub accepted : (job : Job) (bytes : List ℕ) (o : Outcome Setup) (setup : Setup) → MeshMeans job bytes o → o ≡ Accepted setup → IsAccepted job bytes setup
+accepted job bytes o setup (NoMesh fault first is) e = absurd cc
+accepted job bytes o setup (OfMesh mesh means makes) e = made makes
   where
-    by : (surface : SurfaceLists) (found : Option Defect) → IsFirstDefect (setup_of mesh surface numbers) found → outcome_of (setup_of mesh surface numbers) found ≡ Accepted setup → IsAccepted numbers bytes setup
-    by surface None first e = let same : setup_of mesh surface numbers ≡ setup = cc in record { mesh = mesh; surface = surface; means = means; built = sym same; none = subst (λ (s : Setup). IsFirstDefect s None) same first }
+    by : (surface : SurfaceLists) (found : Option Defect) → IsFirstDefect (setup_of mesh surface job.numbers) found → outcome_of (setup_of mesh surface job.numbers) found ≡ Accepted setup → IsAccepted job bytes setup
+    by surface None first e = let same : setup_of mesh surface job.numbers ≡ setup = cc in record { mesh = mesh; surface = surface; means = means; built = sym same; none = subst (λ (s : Setup). IsFirstDefect s None) same first }
     by surface (Some defect) first e = absurd cc
 
-    made : MeshMakes numbers mesh o → IsAccepted numbers bytes setup
+    made : MeshMakes job.numbers mesh o → IsAccepted job bytes setup
     made (NoSurface err refused is) = absurd cc
     made (Bodies surface usable m) = by surface m.found m.first (sym m.same ∙ e)
 
-pub one_mesh_outcome : (numbers : Numbers) (bytes : List ℕ) (a b : Outcome Setup) → MeshMeans numbers bytes a → MeshMeans numbers bytes b → a ≡ b
-one_mesh_outcome numbers bytes a b (NoMesh none is) (NoMesh none' is') = is ∙ sym is'
-one_mesh_outcome numbers bytes a b (NoMesh none is) (OfMesh mesh means makes) = absurd (none mesh means)
-one_mesh_outcome numbers bytes a b (OfMesh mesh means makes) (NoMesh none is') = absurd (none mesh means)
-one_mesh_outcome numbers bytes a b (OfMesh mesh means makes) (OfMesh mesh' means' makes') =
-    one_making numbers mesh' a b (subst (λ (m : Mesh). MeshMakes numbers m a) (one_mesh (rows bytes) mesh mesh' means.first_form means'.first_form) makes) makes'
-
-dec_in_box : (places : List V3) → Dec (All IsInTheBox places)
-dec_in_box places = dec_All IsInTheBox (dec_Within BOX_LIMIT) places
+pub one_mesh_outcome : (job : Job) (bytes : List ℕ) (a b : Outcome Setup) → MeshMeans job bytes a → MeshMeans job bytes b → a ≡ b
+one_mesh_outcome job bytes a b (NoMesh fault first is) (NoMesh fault' first' is') =
+    is ∙ ap (λ f. Refused (mesh_refused_plan f)) (one_fault_of bytes job.digits job.snap fault fault' first first') ∙ sym is'
+one_mesh_outcome job bytes a b (NoMesh fault first is) (OfMesh mesh means makes) = absurd (never_both_of bytes job.digits job.snap mesh fault means first)
+one_mesh_outcome job bytes a b (OfMesh mesh means makes) (NoMesh fault first is) = absurd (never_both_of bytes job.digits job.snap mesh fault means first)
+one_mesh_outcome job bytes a b (OfMesh mesh means makes) (OfMesh mesh' means' makes') =
+    one_making job.numbers mesh' a b (subst (λ (m : Mesh). MeshMakes job.numbers m a) (one_mesh_of bytes job.digits job.snap mesh mesh' means means') makes) makes'
 
 -- a text has an outcome
-pub some_mesh : (numbers : Numbers) (bytes : List ℕ) → (o : Outcome Setup) × MeshMeans numbers bytes o
-some_mesh numbers bytes = by (sections_at (rows bytes)) refl
+pub some_mesh : (job : Job) (bytes : List ℕ) → (o : Outcome Setup) × MeshMeans job bytes o
+some_mesh job bytes = by (means_or_fault_of bytes job.digits job.snap)
   where
-    refusal : ((mesh : Mesh) → ¬ Means bytes mesh) → (o : Outcome Setup) × MeshMeans numbers bytes o
-    refusal none = (Refused mesh_refused_plan, NoMesh none refl)
-
-    in_box : (read : Nodes × List Tet) → sections_at (rows bytes) ≡ Some read → Dec (All IsInTheBox read.0.places) → (o : Outcome Setup) × MeshMeans numbers bytes o
-    in_box read e (yes p) =
-        let mesh : Mesh = record { numbers = read.0.numbers; places = read.0.places; tets = read.1 } in
-        let form = sections_mean (rows bytes) read.0.numbers read.0.places read.1 e p in
-        let made = some_making numbers mesh in
-        (made.0, OfMesh mesh (record { first_form = form }) made.1)
-    in_box read e (no p) = refusal (λ mesh means. no_mesh-outside (rows bytes) read.0.numbers read.0.places read.1 mesh e p means.first_form)
-
-    by : (o : Option (Nodes × List Tet)) → sections_at (rows bytes) ≡ o → (o : Outcome Setup) × MeshMeans numbers bytes o
-    by None e = refusal (λ mesh means. no_mesh (rows bytes) mesh e means.first_form)
-    by (Some read) e = in_box read e (dec_in_box read.0.places)
+    by : ((mesh : Mesh) × TextMeans bytes job.digits job.snap mesh) ⊎ ((fault : MshErr) × IsTextFault bytes job.digits job.snap fault) → (o : Outcome Setup) × MeshMeans job bytes o
+    by (inl found) = let made = some_making job.numbers found.0 in (made.0, OfMesh found.0 found.1 made.1)
+    by (inr found) = (Refused (mesh_refused_plan found.0), NoMesh found.0 found.1 refl)
 
 -- ---- a file
 
@@ -217,7 +201,7 @@ file_refusal {X} Q name limit Means file o three ten text (TooLong bs p l is) = 
 file_refusal {X} Q name limit Means file o three ten text (Whole bs p l m) = text bs m
 
 -- where a file's bodies are accepted, its bytes mean them
-pub file_accepted : (name : List ℕ) (limit : ℕ) (numbers : Numbers) (file : Option (List ℕ)) (o : Outcome Setup) (setup : Setup) → FileMeans name limit (MeshMeans numbers) file o → o ≡ Accepted setup → (bytes : List ℕ) × IsAccepted numbers bytes setup
-file_accepted name limit numbers file o setup (Missing p is) e = absurd cc
-file_accepted name limit numbers file o setup (TooLong bs p l is) e = absurd cc
-file_accepted name limit numbers file o setup (Whole bs p l m) e = (bs, accepted numbers bs o setup m e)
+pub file_accepted : (name : List ℕ) (limit : ℕ) (job : Job) (file : Option (List ℕ)) (o : Outcome Setup) (setup : Setup) → FileMeans name limit (MeshMeans job) file o → o ≡ Accepted setup → (bytes : List ℕ) × IsAccepted job bytes setup
+file_accepted name limit job file o setup (Missing p is) e = absurd cc
+file_accepted name limit job file o setup (TooLong bs p l is) e = absurd cc
+file_accepted name limit job file o setup (Whole bs p l m) e = (bs, accepted job bs o setup m e)

@@ -38,7 +38,7 @@ TakesScene name seen Next = TakesFile name SCENE_LIMIT SceneMeans (get (seen rol
 -- to take the mesh of a job, and then
 abbrev pub TakesMesh : Job → Seen → (Setup → Plan → Type 0) → Plan → Type 0
 TakesMesh job seen Next =
-    TakesFile job.mesh MESH_LIMIT (MeshMeans job.numbers) (get (seen roles.Mesh) job.mesh) Next
+    TakesFile job.mesh MESH_LIMIT (MeshMeans job) (get (seen roles.Mesh) job.mesh) Next
 
 -- to take the mesh of a job, and then to move its bodies from the mesh's places
 abbrev pub JobCallsFor : Job → Seen → Plan → Type 0
@@ -51,7 +51,7 @@ usage_plan = plan_of (Say usage_line ∷ []) 2
 -- what a command calls for
 abbrev pub CommandCallsFor : Option Command → Seen → Plan → Type 0
 CommandCallsFor None seen plan = plan ≡ usage_plan
-CommandCallsFor (Some (Check mesh out)) seen plan = JobCallsFor (check_job mesh out) seen plan
+CommandCallsFor (Some (Check digits mesh out)) seen plan = JobCallsFor (check_job digits mesh out) seen plan
 CommandCallsFor (Some (RunScene name)) seen plan =
     TakesScene name seen (λ scene. JobCallsFor (scene_job scene) seen) plan
 

@@ -3,6 +3,9 @@ use Rattle.std.specs.Prelude.{◌++◌, ◌||◌, ℕ, ℤ, List, [], map, flat_
 use Rattle.std.specs.Option.{option_map_or}
 use Rattle.std.specs.Fmt.{signed_decimal}
 use Rattle.space3.specs.declared.mesh.Mesh.{Mesh}
+use Rattle.mesh_words.specs.declared.kinds.MshKind.{MshKind}
+use Rattle.mesh_words.specs.declared.kinds.MshKind.TheVariants as faults
+use Rattle.msh_text.specs.declared.refusal.MshErr.{MshErr}
 use Rattle.boundary.specs.declared.pairs.Pair.{Pair}
 use Rattle.boundary.specs.declared.pairs.PairKind.{PairKind}
 use Rattle.boundary.specs.declared.pairs.PairKind.TheVariants.{VE, VT, EE, ET}
@@ -28,8 +31,30 @@ accepted_line nodes tets = codes "mesh nodes " ++ decimal nodes ++ codes " tets 
 abbrev pub start_line : List ℕ
 start_line = codes "frame 0 start\n"
 
-abbrev pub mesh_refused_line : List ℕ
-mesh_refused_line = codes "mesh refused: first form\n"
+-- what is wrong with a mesh text
+abbrev pub fault_words : MshKind → List ℕ
+fault_words faults.Truncated = codes "truncated"
+fault_words faults.NoFormat = codes "no format"
+fault_words faults.Misplaced = codes "misplaced"
+fault_words faults.BadCount = codes "bad count"
+fault_words faults.Fields = codes "fields"
+fault_words faults.Version = codes "version"
+fault_words faults.Binary = codes "binary"
+fault_words faults.BadNumber = codes "bad number"
+fault_words faults.TooManyNodes = codes "too many nodes"
+fault_words faults.DuplicateNode = codes "duplicate node"
+fault_words faults.OffGrid = codes "off grid"
+fault_words faults.OutOfBox = codes "out of box"
+fault_words faults.ElementType = codes "element type"
+fault_words faults.UnknownNode = codes "unknown node"
+fault_words faults.RepeatedNode = codes "repeated node"
+fault_words faults.TooManyTets = codes "too many tets"
+fault_words faults.NoTets = codes "no tets"
+
+-- a mesh's text is refused for its first fault
+abbrev pub mesh_refused_line : MshErr → List ℕ
+mesh_refused_line fault =
+    codes "mesh refused: line " ++ decimal fault.line ++ codes " " ++ fault_words fault.kind ++ codes "\n"
 
 -- a byte below 32 or above 126 is printed as `?`
 abbrev pub printed_byte : ℕ → ℕ

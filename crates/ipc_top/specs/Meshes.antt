@@ -10,20 +10,17 @@ use Rattle.surface_mesh.specs.declared.materials.Numbers.{Numbers}
 use Rattle.surface_mesh.specs.Setup.{setup_of}
 use Rattle.mesh_check.specs.declared.defects.Defect.{Defect}
 use Rattle.mesh_check.specs.Defects.{IsFirstDefect}
-use Rattle.line_fields.specs.Lines.{rows}
-use Rattle.msh_text.specs.FirstForm.{IsFirstForm}
+use Rattle.msh_text.specs.declared.refusal.MshErr.{MshErr}
+use Rattle.msh_text.specs.Texts.{TextMeans, IsTextFault}
 use Rattle.ipc_top.specs.Acts.{Say}
 use Rattle.ipc_top.specs.Files.{Outcome, Accepted, Refused}
+use Rattle.ipc_top.specs.Jobs.{Job}
 use Rattle.ipc_top.specs.Lines.{mesh_refused_line, defect_line, surface_refused_line}
 use Rattle.ipc_top.specs.Plans.{Plan, plan_of}
 
--- the text of a mesh file means this mesh
-pub record Means (bytes : List ℕ) (mesh : Mesh) : Type 0 where
-  pub first_form : IsFirstForm (rows bytes) mesh
-
--- a text that means no mesh is refused
-abbrev pub mesh_refused_plan : Plan
-mesh_refused_plan = plan_of (Say mesh_refused_line ∷ []) 6
+-- a text is refused for its first fault
+abbrev pub mesh_refused_plan : MshErr → Plan
+mesh_refused_plan fault = plan_of (Say (mesh_refused_line fault) ∷ []) 6
 
 -- a mesh is refused for its surface
 abbrev pub surface_refused_plan : Mesh → SurfErr → Plan
@@ -51,8 +48,9 @@ pub data MeshMakes (numbers : Numbers) (mesh : Mesh) (outcome : Outcome Setup) :
   Bodies : (surface : SurfaceLists) → IsSurfaceOutcome mesh (Ok surface)
       → SetupMeans (setup_of mesh surface numbers) outcome → MeshMakes numbers mesh outcome
 
--- this comes of a text: it means no mesh, or what its mesh makes
-pub data MeshMeans (numbers : Numbers) (bytes : List ℕ) (outcome : Outcome Setup) : Type 0 where
-  NoMesh : ((mesh : Mesh) → ¬ Means bytes mesh)
-      → outcome ≡ Refused mesh_refused_plan → MeshMeans numbers bytes outcome
-  OfMesh : (mesh : Mesh) → Means bytes mesh → MeshMakes numbers mesh outcome → MeshMeans numbers bytes outcome
+-- this comes of the text of a job's mesh, read on the job's grid: it has a first fault, or what its mesh makes
+pub data MeshMeans (job : Job) (bytes : List ℕ) (outcome : Outcome Setup) : Type 0 where
+  NoMesh : (fault : MshErr) → IsTextFault bytes job.digits job.snap fault
+      → outcome ≡ Refused (mesh_refused_plan fault) → MeshMeans job bytes outcome
+  OfMesh : (mesh : Mesh) → TextMeans bytes job.digits job.snap mesh
+      → MeshMakes job.numbers mesh outcome → MeshMeans job bytes outcome

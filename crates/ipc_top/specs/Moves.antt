@@ -28,13 +28,13 @@ first_start job setup = record {
   number = 0;
   places = setup.mesh.places;
   before = first_before setup;
-  shown = Put (frame_name job.out 0) (frame_text setup.mesh setup.mesh.places) ∷ Say start_line ∷ [];
+  shown = Put (frame_name job.out 0) (frame_text setup.mesh setup.mesh.places job.digits) ∷ Say start_line ∷ [];
 }
 
 -- the acts of the frame of this number, which begins at the places `now`
 abbrev pub acts_of_frame : Job → Setup → ℕ → (now : List V3) → Frame → List Act
 acts_of_frame job setup number now frame =
-    Put (frame_name job.out number) (frame_text setup.mesh (last_after now frame.steps))
+    Put (frame_name job.out number) (frame_text setup.mesh (last_after now frame.steps) job.digits)
     ∷ Say (frame_line number frame.end)
     ∷ []
 

@@ -7,24 +7,27 @@ ghost use Rattle.ipc_top.specs.Commands as commands;
 ghost use Rattle.ipc_top.specs.Jobs as jobs;
 ghost use Rattle.ipc_top.specs.Calls.Plans.{Obeys, status_of};
 
+use crate::grids::Digits;
 use crate::job::{Job, do_job};
 use crate::mesh::MESH_LIMIT;
 use crate::refusals::End;
 use crate::scene::{SCENE_LIMIT, take_scene};
+use dec_text::Snap;
 use shelf_io::{Shelf, Sink};
 use space3::V3;
 use std::alloc::Global;
 use surface_mesh::{Material, Numbers, PartList};
 
-/// Checks the mesh of a file: says its size and writes its frame 0 under the name `out`, or says why it is refused.
+/// Checks the mesh of a file, read with so many digits: says its size and writes its frame 0 under the name `out`, or says why it is refused.
 pub fn check<S: Shelf, C: Sink>(
     alloc: Global,
     shelf: &mut S,
     console: &mut C,
+    digits: Digits,
     mesh: &str,
     out: &str,
 ) -> Result<u8, End>
-    ensures obeys { Obeys (CommandCallsFor (Some (commands.Check mesh.now out.now))) result
+    ensures obeys { Obeys (CommandCallsFor (Some (commands.Check digits.count mesh.now out.now))) result
         (world (S.state shelf.old) (C.state console.old))
         (world (S.state shelf.new) (C.state console.new)) }
     ensures too_long { status_of result ≡ 10 → (S.state shelf.new).taken ≡ MESH_LIMIT + 1 }
@@ -32,6 +35,8 @@ pub fn check<S: Shelf, C: Sink>(
     let job = Job {
         mesh,
         out,
+        digits,
+        snap: Snap::Nearest,
         tol: 0,
         budget: 1,
         frames: 0,
@@ -79,6 +84,10 @@ pub fn run<S: Shelf, C: Sink>(
     let job = Job {
         mesh: scene.mesh.text(),
         out: scene.out.text(),
+        digits: Digits {
+            count: scene.digits,
+        },
+        snap: scene.snap,
         tol: scene.tol,
         budget: scene.budget,
         frames: scene.frames,

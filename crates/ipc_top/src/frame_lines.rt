@@ -5,6 +5,7 @@ ghost use Rattle.msh_text.specs.Frame.{frame_text};
 ghost use Rattle.ipc_top.specs.Moves as moves;
 ghost use Rattle.ipc_top.specs.Lines as lines;
 
+use crate::grids::Digits;
 use crate::lines::add_number;
 use frame_driver::FrameEnd;
 use itoa::Buffer;
@@ -74,13 +75,18 @@ pub fn frame_name(alloc: Global, out: &str, frame: u32) -> Result<String, AllocE
     Ok(name)
 }
 
-/// The file of a frame: the mesh with its nodes at these places, one per node, in whole grid units.
-pub fn frame_text(alloc: Global, mesh: &Mesh, places: &Places) -> Result<Vec<u8>, AllocError>
+/// The file of a frame: the mesh with its nodes at these places, one per node, as decimals of so many digits.
+pub fn frame_text(
+    alloc: Global,
+    mesh: &Mesh,
+    places: &Places,
+    digits: Digits,
+) -> Result<Vec<u8>, AllocError>
     requires sound { IsSound mesh.now }
     requires placed { length places.now ≡ length mesh.now.numbers }
-    ensures { IfOk result (λ text. text.items ≡ frame_text mesh.now places.now) }
+    ensures { IfOk result (λ text. text.items ≡ frame_text mesh.now places.now digits.count) }
 {
     let mut text = Vec::new(alloc);
-    write_frame(alloc, mesh, places, 0, &mut text)?;
+    write_frame(alloc, mesh, places, digits.count, &mut text)?;
     Ok(text)
 }

@@ -55,7 +55,7 @@ fn show_frame<S: Shelf, C: Sink>(
 {
     let end = sim.frame(alloc)?;
     let name = frame_name(alloc, job.out, number)?;
-    let text = frame_text(alloc, &sim.setup().mesh, sim.places())?;
+    let text = frame_text(alloc, &sim.setup().mesh, sim.places(), job.digits)?;
     let line = frame_line(alloc, number, end)?;
     put_and_say(alloc, shelf, console, &name, &text, &line)?;
     Ok(end)

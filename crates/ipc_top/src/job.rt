@@ -6,9 +6,11 @@ ghost use Rattle.ipc_top.specs.CallsFor.{JobCallsFor};
 ghost use Rattle.ipc_top.specs.Calls.Jobs.{job_of};
 ghost use Rattle.ipc_top.specs.Calls.Plans.{Obeys, status_of};
 
+use crate::grids::Digits;
 use crate::mesh::{MESH_LIMIT, take_mesh};
 use crate::motion::show_motion;
 use crate::refusals::End;
+use dec_text::Snap;
 use shelf_io::{Shelf, Sink};
 use std::alloc::Global;
 use surface_mesh::Numbers;
@@ -20,6 +22,10 @@ pub struct Job<'a> {
     pub mesh: &'a str,
     /// What the names of the frames' files begin with.
     pub out: &'a str,
+    /// A grid unit is 10^-digits of the mesh file's unit.
+    pub digits: Digits,
+    /// What is done with coordinates of the mesh file that aren't on this grid.
+    pub snap: Snap,
     /// A frame has converged where no component of the gradient is above this in absolute value.
     pub tol: i64,
     /// The most steps of a frame.
@@ -42,6 +48,6 @@ pub fn do_job<S: Shelf, C: Sink>(
         (world (S.state shelf.new) (C.state console.new)) }
     ensures too_long { status_of result ≡ 10 → (S.state shelf.new).taken ≡ MESH_LIMIT + 1 }
 {
-    let setup = take_mesh(alloc, shelf, console, job.mesh, numbers)?;
+    let setup = take_mesh(alloc, shelf, console, job, numbers)?;
     show_motion(alloc, shelf, console, job, setup)
 }

@@ -8,6 +8,7 @@ ghost use Rattle.ipc_top.specs.Lines as lines;
 use boundary::{Pair, PairKind, SurfErr};
 use itoa::Buffer;
 use mesh_check::Defect;
+use msh_text::{MshErr, MshKind};
 use scene_toml::SceneErr;
 use space3::Mesh;
 use std::alloc::{AllocError, Global};
@@ -18,9 +19,6 @@ pub const USAGE_LINE: &[u8] = b"usage: ipc check DIGITS MESH OUT | run SCENE\n";
 
 /// Frame 0 is written.
 pub const START_LINE: &[u8] = b"frame 0 start\n";
-
-/// The mesh text isn't in the first form.
-pub const MESH_REFUSED_LINE: &[u8] = b"mesh refused: first form\n";
 
 fn printed_byte(b: u8) -> u8
     ensures { result ≡ lines.printed_byte b }
@@ -168,6 +166,42 @@ fn tets_line(alloc: Global, what: &[u8], mesh: &Mesh, tets: &[u32]) -> Result<Ve
 {
     let mut line = Vec::from_slice(alloc, what)?;
     add_tets(&mut line, mesh, tets)?;
+    line.extend_from_slice(b"\n")?;
+    Ok(line)
+}
+
+fn fault_words(kind: MshKind) -> &'static [u8]
+    ensures { result.now ≡ lines.fault_words kind }
+{
+    match kind {
+        MshKind::Truncated => b"truncated",
+        MshKind::NoFormat => b"no format",
+        MshKind::Misplaced => b"misplaced",
+        MshKind::BadCount => b"bad count",
+        MshKind::Fields => b"fields",
+        MshKind::Version => b"version",
+        MshKind::Binary => b"binary",
+        MshKind::BadNumber => b"bad number",
+        MshKind::TooManyNodes => b"too many nodes",
+        MshKind::DuplicateNode => b"duplicate node",
+        MshKind::OffGrid => b"off grid",
+        MshKind::OutOfBox => b"out of box",
+        MshKind::ElementType => b"element type",
+        MshKind::UnknownNode => b"unknown node",
+        MshKind::RepeatedNode => b"repeated node",
+        MshKind::TooManyTets => b"too many tets",
+        MshKind::NoTets => b"no tets",
+    }
+}
+
+/// The line of a mesh text that is refused for its first fault.
+pub fn mesh_refused_line(alloc: Global, fault: MshErr) -> Result<Vec<u8>, AllocError>
+    ensures { IfOk result (λ line. line.items ≡ lines.mesh_refused_line fault) }
+{
+    let mut line = Vec::from_slice(alloc, b"mesh refused: line ")?;
+    add_number(&mut line, fault.line)?;
+    line.extend_from_slice(b" ")?;
+    line.extend_from_slice(fault_words(fault.kind))?;
     line.extend_from_slice(b"\n")?;
     Ok(line)
 }

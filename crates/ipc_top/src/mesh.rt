@@ -9,10 +9,11 @@ ghost use Rattle.surface_mesh.specs.Setup.{HasSurface, setup_of};
 ghost use Rattle.ipc_top.specs.Acts.{world};
 ghost use Rattle.ipc_top.specs.Meshes.{MeshMakes, MeshMeans, SetupMeans};
 ghost use Rattle.ipc_top.specs.Calls.Files.{Takes, LooksThrough};
-ghost use Rattle.ipc_top.specs.Calls.Jobs.{AreFit};
+ghost use Rattle.ipc_top.specs.Calls.Jobs.{AreFit, job_of};
 
 use crate::acts::Stop;
 use crate::files::take_file;
+use crate::job::Job;
 use crate::refusals::{End, refuse_defect, refuse_mesh, refuse_surface};
 use boundary::{SurfErr, Surface};
 use mesh_check::first_defect;
@@ -25,41 +26,43 @@ use surface_mesh::{Numbers, Setup};
 /// The most bytes that a mesh file may have: 2^28, enough for the greatest mesh with long decimals and tags.
 pub const MESH_LIMIT: u64 = 268_435_456;
 
-/// Takes and reads the mesh of a file and makes its bodies, or says why it is refused: 6 for a text that isn't in the
-/// first form and for a surface that is refused, 7 for a defect, 10 for a file that is too long.
+/// Takes and reads the mesh of a job and makes its bodies, or says why it is refused: 6 for the text's first fault and
+/// for a surface that is refused, 7 for a defect, 10 for a file that is too long.
 pub fn take_mesh<S: Shelf, C: Sink>(
     alloc: Global,
     shelf: &mut S,
     console: &mut C,
-    name: &str,
+    job: &Job,
     numbers: Numbers,
 ) -> Result<Setup, End>
     requires { AreNumbers numbers }
-    ensures takes { Takes name.now MESH_LIMIT (MeshMeans numbers) result
+    ensures takes { Takes job.now.mesh.now MESH_LIMIT (MeshMeans (job_of job.now numbers)) result
         (world (S.state shelf.old) (C.state console.old))
         (world (S.state shelf.new) (C.state console.new)) }
     ensures fit { IfOk result AreFit }
 {
-    let bytes = take_file(alloc, shelf, console, name, MESH_LIMIT)?;
-    bodies_of_bytes(alloc, console, &bytes, numbers)
+    let bytes = take_file(alloc, shelf, console, job.mesh, MESH_LIMIT)?;
+    bodies_of_bytes(alloc, console, &bytes, job, numbers)
 }
 
-// Reads the bytes of a mesh file.
+// Reads the bytes of a job's mesh file.
 fn bodies_of_bytes<C: Sink>(
     alloc: Global,
     console: &mut C,
     bytes: &[u8],
+    job: &Job,
     numbers: Numbers,
 ) -> Result<Setup, End>
     requires { AreNumbers numbers }
-    ensures looks { (s : ShelfState) → LooksThrough (MeshMeans numbers bytes.now) result
+    ensures looks { (s : ShelfState) →
+        LooksThrough (MeshMeans (job_of job.now numbers) bytes.now) result
         (world s (C.state console.old)) (world s (C.state console.new)) }
     ensures fit { IfOk result AreFit }
 {
-    match read_msh(alloc, bytes) {
+    match read_msh(alloc, bytes, job.digits.count, job.snap) {
         Ok(mesh) => bodies_of_mesh(alloc, console, mesh, numbers),
         Err(ReadMshErr::Memory) => Err(End::Stopped(Stop::Memory)),
-        Err(ReadMshErr::Text(_)) => Err(refuse_mesh(console)),
+        Err(ReadMshErr::Text(fault)) => Err(refuse_mesh(alloc, console, fault)),
     }
 }
 

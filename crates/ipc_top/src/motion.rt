@@ -68,7 +68,7 @@ fn show_start<S: Shelf, C: Sink>(
     let tets = setup.mesh.tets.items().len() as u64;
     let line = accepted_line(alloc, nodes, tets)?;
     let name = frame_name(alloc, job.out, 0)?;
-    let text = frame_text(alloc, &setup.mesh, &setup.mesh.places)?;
+    let text = frame_text(alloc, &setup.mesh, &setup.mesh.places, job.digits)?;
     say(console, &line)?;
     put_and_say(alloc, shelf, console, &name, &text, START_LINE)
 }

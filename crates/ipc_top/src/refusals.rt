@@ -11,11 +11,12 @@ ghost use Rattle.ipc_top.specs.Calls.Plans.{Follows};
 
 use crate::acts::{Stop, say};
 use crate::lines::{
-    MESH_REFUSED_LINE, USAGE_LINE, defect_line, scene_refused_line, surface_refused_line,
+    USAGE_LINE, defect_line, mesh_refused_line, scene_refused_line, surface_refused_line,
     too_long_line,
 };
 use boundary::SurfErr;
 use mesh_check::Defect;
+use msh_text::MshErr;
 use scene_toml::SceneErr;
 use shelf_io::Sink;
 use space3::Mesh;
@@ -94,12 +95,13 @@ pub fn refuse_scene<C: Sink>(alloc: Global, console: &mut C, err: &SceneErr) -> 
     refuse_if_made(console, scene_refused_line(alloc, err), 5)
 }
 
-/// Refuses a mesh text that isn't in the first form.
-pub fn refuse_mesh<C: Sink>(console: &mut C) -> End
-    ensures { (s : ShelfState) → Follows (plan_of (Say specs.mesh_refused_line ∷ []) 6) (Err result)
+/// Refuses a mesh text for its first fault.
+pub fn refuse_mesh<C: Sink>(alloc: Global, console: &mut C, fault: MshErr) -> End
+    ensures { (s : ShelfState) →
+        Follows (plan_of (Say (specs.mesh_refused_line fault) ∷ []) 6) (Err result)
         (world s (C.state console.old)) (world s (C.state console.new)) }
 {
-    refuse_with(console, MESH_REFUSED_LINE, 6)
+    refuse_if_made(console, mesh_refused_line(alloc, fault), 6)
 }
 
 /// Refuses a mesh for its surface.

@@ -1,5 +1,5 @@
 //! The scene of a file.
-ghost use Rattle.std.specs.Prelude.{◌≡◌, IfOk};
+ghost use Rattle.std.specs.Prelude.{IfOk};
 ghost use Rattle.shelf_io.specs.Shelf.{ShelfState};
 ghost use Rattle.scene_toml.specs.Scenes.{IsScene};
 ghost use Rattle.ipc_top.specs.Acts.{world};

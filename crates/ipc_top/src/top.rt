@@ -21,7 +21,8 @@ use std::alloc::Global;
 
 /// Does all that the program does, and answers its status. `words` are those after the program's name.
 ///
-/// `check 0 MESH OUT` reads the mesh of a file in whole grid units, and writes its frame 0 to the file `OUT_0000.msh`.
+/// `check DIGITS MESH OUT` reads the mesh of a file with so many digits after the point, one from 0 to 9, and writes its
+/// frame 0 to the file `OUT_0000.msh`.
 /// `run SCENE` reads the scene of a file and its mesh, and writes frame 0 and the frames that follow.
 ///
 /// | status | comes |
@@ -32,7 +33,7 @@ use std::alloc::Global;
 /// | 3 | the shelf failed at a file that was to be read, or has none of that name |
 /// | 4 | the shelf failed at a frame's file |
 /// | 5 | the scene is refused |
-/// | 6 | the mesh text isn't in the first form, or the mesh has no surface |
+/// | 6 | the mesh text has a fault, or the mesh has no surface |
 /// | 7 | the mesh has a defect: a tetrahedron that isn't positive, is thin or long, a node that is too heavy, or a pair of parts of the surface that meet |
 /// | 8 | memory was wanting |
 /// | 9 | the console failed |
@@ -92,7 +93,9 @@ fn do_command<S: Shelf, C: Sink>(
         ⊎ ((S.state shelf.new).taken ≡ MESH_LIMIT + 1) }
 {
     match command_of(words) {
-        Some(Command::Check { mesh, out }) => check(alloc, shelf, console, mesh, out),
+        Some(Command::Check { digits, mesh, out }) => check(
+            alloc, shelf, console, digits, mesh, out,
+        ),
         Some(Command::RunScene { scene }) => run(alloc, shelf, console, scene),
         None => Err(refuse_words(console)),
     }

@@ -12,8 +12,6 @@ pub mod line_numbers;
 pub mod numbers;
 
 pub use cursor::{has_field, next_field, next_line};
-pub use exact::{
-    begins_with, field_count, fields_into, four_fields, is_word, one_field, three_fields,
-};
+pub use exact::{field_count, four_fields, is_word, one_field, three_fields};
 pub use line_numbers::line_count;
 pub use numbers::{DIGIT_LIMIT, WHOLE_LIMIT, tag, unsigned_number, whole_number};

@@ -6,9 +6,10 @@ use Rattle.std.specs.Fmt.{signed_decimal}
 use Rattle.std.proofs.lemmas.List.{append-nil, map-append, flat_map_more, take_all}
 use Rattle.std.proofs.lemmas.Slice.Zip.{length-zip}
 use Rattle.std.proofs.lemmas.Grind.{flat_map-append}
+use Rattle.dec_text.specs.GridText.{grid_decimal}
 use Rattle.space3.specs.declared.vectors.V3.{V3}
 use Rattle.space3.specs.declared.lists.Tet.{Tet}
-use Rattle.msh_text.specs.FirstForm.{Row}
+use Rattle.mesh_words.specs.Rows.{Row}
 use Rattle.space3.specs.declared.mesh.Mesh.{Mesh}
 use Rattle.msh_text.specs.Frame.{line_of, node_row, tet_row, tet_rows, spaced, frame_text}
 
@@ -24,15 +25,15 @@ regroup_4 : (o n x y z : List ℕ) → ((((o ++ n) ++ x) ++ y) ++ z) ++ codes "\
 regroup_4 o n x y z = simp (append-nil, append_assoc)
 
 -- what was written of a node is its line
-pub node_line : (o o1 o2 o3 o4 o5 : List ℕ) (number : ℕ) (place : V3) → o1 ≡ o ++ decimal number → o2 ≡ o1 ++ (32 ∷ signed_decimal place.x) → o3 ≡ o2 ++ (32 ∷ signed_decimal place.y)
-    → o4 ≡ o3 ++ (32 ∷ signed_decimal place.z) → o5 ≡ o4 ++ codes "\n" → o5 ≡ o ++ line_of (node_row (number, place))
-node_line o o1 o2 o3 o4 o5 number place e1 e2 e3 e4 e5 =
+pub node_line : (o o1 o2 o3 o4 o5 : List ℕ) (digits number : ℕ) (place : V3) → o1 ≡ o ++ decimal number → o2 ≡ o1 ++ (32 ∷ grid_decimal place.x digits) → o3 ≡ o2 ++ (32 ∷ grid_decimal place.y digits)
+    → o4 ≡ o3 ++ (32 ∷ grid_decimal place.z digits) → o5 ≡ o4 ++ codes "\n" → o5 ≡ o ++ line_of (node_row digits (number, place))
+node_line o o1 o2 o3 o4 o5 digits number place e1 e2 e3 e4 e5 =
     let n = decimal number in
-    let x = 32 ∷ signed_decimal place.x in
-    let y = 32 ∷ signed_decimal place.y in
-    let z = 32 ∷ signed_decimal place.z in
+    let x = 32 ∷ grid_decimal place.x digits in
+    let y = 32 ∷ grid_decimal place.y digits in
+    let z = 32 ∷ grid_decimal place.z digits in
     let parts : o5 ≡ ((((o ++ n) ++ x) ++ y) ++ z) ++ codes "\n" = cc in
-    parts ∙ regroup_4 o n x y z ∙ sym (ap (λ (t : List ℕ). o ++ t) (line_of-cons n (signed_decimal place.x ∷ signed_decimal place.y ∷ signed_decimal place.z ∷ [])))
+    parts ∙ regroup_4 o n x y z ∙ sym (ap (λ (t : List ℕ). o ++ t) (line_of-cons n (grid_decimal place.x digits ∷ grid_decimal place.y digits ∷ grid_decimal place.z digits ∷ [])))
 
 regroup_6 : (o n f c t k : List ℕ) → (((((o ++ n) ++ f) ++ c) ++ t) ++ k) ++ codes "\n" ≡ o ++ ((n ++ (f ++ (c ++ (t ++ k)))) ++ codes "\n")
 regroup_6 o n f c t k = simp append_assoc
@@ -66,14 +67,14 @@ nodes_more (suc i) (m ∷ ms) (x ∷ xs) number place h k =
     rw s (ap (λ (t : List (ℕ × V3)). (m, x) ∷ t) (nodes_more i ms xs number place h k))
 
 -- the line of one more node
-pub node_lines_more : (i : ℕ) (o out out' : List ℕ) (numbers : List ℕ) (places : List V3) (number : ℕ) (place : V3) → slice_get numbers i ≡ Some number → slice_get places i ≡ Some place
-    → out ≡ o ++ flat_map line_of (map node_row (take i (zip numbers places))) → out' ≡ out ++ line_of (node_row (number, place))
-    → out' ≡ o ++ flat_map line_of (map node_row (take (i + 1) (zip numbers places)))
-node_lines_more i o out out' numbers places number place h k e f =
+pub node_lines_more : (digits i : ℕ) (o out out' : List ℕ) (numbers : List ℕ) (places : List V3) (number : ℕ) (place : V3) → slice_get numbers i ≡ Some number → slice_get places i ≡ Some place
+    → out ≡ o ++ flat_map line_of (map (node_row digits) (take i (zip numbers places))) → out' ≡ out ++ line_of (node_row digits (number, place))
+    → out' ≡ o ++ flat_map line_of (map (node_row digits) (take (i + 1) (zip numbers places)))
+node_lines_more digits i o out out' numbers places number place h k e f =
     let before = take i (zip numbers places) in
-    let rows : map node_row (take (i + 1) (zip numbers places)) ≡ map node_row before ++ node_row (number, place) ∷ [] =
-    ap (map node_row) (nodes_more i numbers places number place h k) ∙ map-append node_row before ((number, place) ∷ []) in
-    f ∙ ap (λ (t : List ℕ). t ++ line_of (node_row (number, place))) e ∙ flat_map_more line_of o (map node_row before) (node_row (number, place))
+    let rows : map (node_row digits) (take (i + 1) (zip numbers places)) ≡ map (node_row digits) before ++ node_row digits (number, place) ∷ [] =
+    ap (map (node_row digits)) (nodes_more i numbers places number place h k) ∙ map-append (node_row digits) before ((number, place) ∷ []) in
+    f ∙ ap (λ (t : List ℕ). t ++ line_of (node_row digits (number, place))) e ∙ flat_map_more line_of o (map (node_row digits) before) (node_row digits (number, place))
     ∙ ap (λ (t : List Row). o ++ flat_map line_of t) (sym rows)
 
 -- all nodes
@@ -90,12 +91,12 @@ abbrev pub end_text : List ℕ
 end_text = codes "$EndElements\n"
 
 -- a frame piece by piece
-frame_parts : (mesh : Mesh) (places : List V3) → frame_text mesh places
-    ≡ head_text ++ ((decimal (length mesh.numbers) ++ codes "\n") ++ (flat_map line_of (map node_row (zip mesh.numbers places))
+frame_parts : (mesh : Mesh) (places : List V3) (digits : ℕ) → frame_text mesh places digits
+    ≡ head_text ++ ((decimal (length mesh.numbers) ++ codes "\n") ++ (flat_map line_of (map (node_row digits) (zip mesh.numbers places))
     ++ (middle_text ++ ((decimal (length mesh.tets) ++ codes "\n") ++ (flat_map line_of (map (tet_row mesh.numbers) mesh.tets) ++ end_text)))))
 unfolding frame_text
-frame_parts mesh places =
-    let nodes = map node_row (zip mesh.numbers places) in
+frame_parts mesh places digits =
+    let nodes = map (node_row digits) (zip mesh.numbers places) in
     let tets = map (tet_row mesh.numbers) mesh.tets in
     let ending : Row = codes "$EndNodes" ∷ [] in
     let tail : flat_map line_of (tets ++ (codes "$EndElements" ∷ []) ∷ []) ≡ flat_map line_of tets ++ end_text = flat_map-append line_of tets ((codes "$EndElements" ∷ []) ∷ []) in
@@ -110,15 +111,15 @@ regroup_8 : (o h n ns f t ts e : List ℕ) → ((((((((o ++ h) ++ n) ++ codes "\
 regroup_8 o h n ns f t ts e = simp append_assoc
 
 -- what was written of a frame is its text
-pub frame_whole : (mesh : Mesh) (places : List V3) (o o1 o2 o3 o4 o5 o6 o7 o8 o9 : List ℕ) → o1 ≡ o ++ head_text → o2 ≡ o1 ++ decimal (length mesh.numbers) → o3 ≡ o2 ++ codes "\n"
-    → o4 ≡ o3 ++ flat_map line_of (map node_row (zip mesh.numbers places)) → o5 ≡ o4 ++ middle_text → o6 ≡ o5 ++ decimal (length mesh.tets) → o7 ≡ o6 ++ codes "\n"
-    → o8 ≡ o7 ++ flat_map line_of (map (tet_row mesh.numbers) mesh.tets) → o9 ≡ o8 ++ end_text → o9 ≡ o ++ frame_text mesh places
-frame_whole mesh places o o1 o2 o3 o4 o5 o6 o7 o8 o9 e1 e2 e3 e4 e5 e6 e7 e8 e9 =
+pub frame_whole : (mesh : Mesh) (places : List V3) (digits : ℕ) (o o1 o2 o3 o4 o5 o6 o7 o8 o9 : List ℕ) → o1 ≡ o ++ head_text → o2 ≡ o1 ++ decimal (length mesh.numbers) → o3 ≡ o2 ++ codes "\n"
+    → o4 ≡ o3 ++ flat_map line_of (map (node_row digits) (zip mesh.numbers places)) → o5 ≡ o4 ++ middle_text → o6 ≡ o5 ++ decimal (length mesh.tets) → o7 ≡ o6 ++ codes "\n"
+    → o8 ≡ o7 ++ flat_map line_of (map (tet_row mesh.numbers) mesh.tets) → o9 ≡ o8 ++ end_text → o9 ≡ o ++ frame_text mesh places digits
+frame_whole mesh places digits o o1 o2 o3 o4 o5 o6 o7 o8 o9 e1 e2 e3 e4 e5 e6 e7 e8 e9 =
     let n = decimal (length mesh.numbers) in
-    let ns = flat_map line_of (map node_row (zip mesh.numbers places)) in
+    let ns = flat_map line_of (map (node_row digits) (zip mesh.numbers places)) in
     let t = decimal (length mesh.tets) in
     let ts = flat_map line_of (map (tet_row mesh.numbers) mesh.tets) in
     let parts : o9 ≡ ((((((((o ++ head_text) ++ n) ++ codes "\n") ++ ns) ++ middle_text) ++ t) ++ codes "\n") ++ ts) ++ end_text =
     e9 ∙ ap (λ (x : List ℕ). x ++ end_text) (e8 ∙ ap (λ (x : List ℕ). x ++ ts) (e7 ∙ ap (λ (x : List ℕ). x ++ codes "\n") (e6 ∙ ap (λ (x : List ℕ). x ++ t) (e5 ∙ ap (λ (x : List ℕ). x ++ middle_text)
     (e4 ∙ ap (λ (x : List ℕ). x ++ ns) (e3 ∙ ap (λ (x : List ℕ). x ++ codes "\n") (e2 ∙ ap (λ (x : List ℕ). x ++ n) e1))))))) in
-    parts ∙ regroup_8 o head_text n ns middle_text t ts end_text ∙ sym (ap (λ x. o ++ x) (frame_parts mesh places))
+    parts ∙ regroup_8 o head_text n ns middle_text t ts end_text ∙ sym (ap (λ x. o ++ x) (frame_parts mesh places digits))

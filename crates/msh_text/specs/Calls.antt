@@ -1,4 +1,3 @@
 -- Words of the crate's own calls.
-pub mod Elements
 pub mod Growth
-pub mod Sections
+pub mod Reading

@@ -1,4 +1,5 @@
 pub mod Calls
-pub mod FirstForm
+pub mod FirstFault
 pub mod Frame
-pub mod Gives
+pub mod MeshText
+pub mod Texts

@@ -1,19 +1,24 @@
 //! The text of a frame.
-ghost use Rattle.std.specs.Prelude.{◌≡◌, ◌++◌, ◌∷◌, [], ◌<◌, OnOk, OnErr, All, List, ℕ, length, map, take, decimal, slice_index, codes};
+ghost use Rattle.std.specs.Prelude.{◌≡◌, ◌++◌, ◌∷◌, [], ◌<◌, ◌≤◌, OnOk, OnErr, All, List, ℕ, length, map, take, decimal, slice_index, codes};
 ghost use Rattle.std.specs.Fmt.{signed_decimal};
 ghost use Rattle.std.specs.List.{flat_map, zip};
+ghost use Rattle.dec_text.specs.declared.TheConstants.{FINEST_GRID};
+ghost use Rattle.dec_text.specs.GridText.{grid_decimal};
 ghost use Rattle.space3.specs.Mesh.{IsSound, IsSoundTet};
 ghost use Rattle.msh_text.specs.Calls.Growth.{Begins};
-ghost use Rattle.msh_text.specs.Frame.{line_of, node_row, tet_row, frame_text, spaced};
+ghost use Rattle.msh_text.specs.Frame.{line_of, node_row, tet_row, frame_text, placed_at, spaced};
+ghost use Rattle.msh_text.specs.Texts.{TextMeans};
 
+use dec_text::{Snap, grid_text};
 use itoa::Buffer;
 use space3::{Mesh, Places, Tet, V3};
 use std::alloc::{AllocError, Global};
 
-/// Adds the text of a frame: the mesh's nodes at these places, with coordinates in whole grid units, and its
-/// tetrahedra with their tags. The text is made in place; where memory is wanting, the list is cut back to what it was.
+/// Adds the text of a frame: the mesh's nodes at these places, with coordinates as the shortest decimals on the grid of
+/// `digits` digits after the point, 0 to 9, and its tetrahedra with their tags. The text is made in place; where memory is
+/// wanting, the list is cut back to what it was.
 pub fn write_frame(
-    _alloc: Global,
+    alloc: Global,
     mesh: &Mesh,
     places: &Places,
     digits: u8,
@@ -21,12 +26,15 @@ pub fn write_frame(
 ) -> Result<(), AllocError>
     requires sound { IsSound mesh.now }
     requires placed { length places.now ≡ length mesh.now.numbers }
-    requires whole { digits ≡ 0 }
-    ensures added { OnOk result (out.new.items ≡ out.old.items ++ frame_text mesh.now places.now) }
+    requires grid { digits ≤ FINEST_GRID }
+    ensures added { OnOk result (out.new.items ≡ out.old.items ++ frame_text mesh.now places.now digits) }
     ensures unchanged { OnErr result (out.new.items ≡ out.old.items) }
+    // On the same grid the text is read back as the mesh at these places.
+    ensures read_back { TextMeans (frame_text mesh.now places.now digits) digits Snap.Exact
+        (placed_at mesh.now places.now) }
 {
     let before = out.len();
-    match add_frame(out, mesh, places) {
+    match add_frame(alloc, out, mesh, places.items(), digits) {
         Ok(()) => Ok(()),
         Err(err) => {
             out.truncate(before);
@@ -36,10 +44,17 @@ pub fn write_frame(
 }
 
 // Adds the text of a frame; where memory is wanting, some first part of it.
-fn add_frame(out: &mut Vec<u8>, mesh: &Mesh, places: &Places) -> Result<(), AllocError>
+fn add_frame(
+    alloc: Global,
+    out: &mut Vec<u8>,
+    mesh: &Mesh,
+    places: &[V3],
+    digits: u8,
+) -> Result<(), AllocError>
+    requires grid { digits ≤ FINEST_GRID }
     requires sound { IsSound mesh.now }
     requires placed { length places.now ≡ length mesh.now.numbers }
-    ensures added { OnOk result (out.new.items ≡ out.old.items ++ frame_text mesh.now places.now) }
+    ensures added { OnOk result (out.new.items ≡ out.old.items ++ frame_text mesh.now places.now digits) }
     ensures kept { OnErr result (Begins out.old.items out.new.items) }
 {
     let numbers = mesh.numbers.items();
@@ -47,7 +62,7 @@ fn add_frame(out: &mut Vec<u8>, mesh: &Mesh, places: &Places) -> Result<(), Allo
     add(out, b"$MeshFormat\n2.2 0 8\n$EndMeshFormat\n$Nodes\n")?;
     add_number(out, numbers.len() as u64)?;
     add(out, b"\n")?;
-    add_nodes(out, numbers, places)?;
+    add_nodes(alloc, out, numbers, places, digits)?;
     add(out, b"$EndNodes\n$Elements\n")?;
     add_number(out, tets.len() as u64)?;
     add(out, b"\n")?;
@@ -57,26 +72,40 @@ fn add_frame(out: &mut Vec<u8>, mesh: &Mesh, places: &Places) -> Result<(), Allo
 }
 
 // The lines of the nodes.
-fn add_nodes(out: &mut Vec<u8>, numbers: &[u32], places: &Places) -> Result<(), AllocError>
-    requires { length numbers.now ≡ length places.now }
-    ensures added { OnOk result (out.new.items ≡ out.old.items ++ flat_map line_of (map node_row (zip numbers.now places.now))) }
+fn add_nodes(
+    alloc: Global,
+    out: &mut Vec<u8>,
+    numbers: &[u32],
+    places: &[V3],
+    digits: u8,
+) -> Result<(), AllocError>
+    requires grid { digits ≤ FINEST_GRID }
+    requires placed { length numbers.now ≡ length places.now }
+    ensures added { OnOk result (out.new.items ≡ out.old.items ++ flat_map line_of (map (node_row digits) (zip numbers.now places.now))) }
     ensures kept { OnErr result (Begins out.old.items out.new.items) }
 {
     for i in 0..places.len() {
-        add_node(out, numbers[i as usize], places.get(i))?;
+        add_node(alloc, out, numbers[i], places[i], digits)?;
     }
     Ok(())
 }
 
 // The line of a node.
-fn add_node(out: &mut Vec<u8>, number: u32, place: V3) -> Result<(), AllocError>
-    ensures added { OnOk result (out.new.items ≡ out.old.items ++ line_of (node_row (number, place))) }
+fn add_node(
+    alloc: Global,
+    out: &mut Vec<u8>,
+    number: u32,
+    place: V3,
+    digits: u8,
+) -> Result<(), AllocError>
+    requires { digits ≤ FINEST_GRID }
+    ensures added { OnOk result (out.new.items ≡ out.old.items ++ line_of (node_row digits (number, place))) }
     ensures kept { OnErr result (Begins out.old.items out.new.items) }
 {
     add_number(out, u64::from(number))?;
-    add_signed_field(out, place.x)?;
-    add_signed_field(out, place.y)?;
-    add_signed_field(out, place.z)?;
+    add_coordinate(alloc, out, place.x, digits)?;
+    add_coordinate(alloc, out, place.y, digits)?;
+    add_coordinate(alloc, out, place.z, digits)?;
     add(out, b"\n")?;
     Ok(())
 }
@@ -148,6 +177,16 @@ fn add_signed_field(out: &mut Vec<u8>, n: i64) -> Result<(), AllocError>
 {
     add(out, b" ")?;
     add_signed(out, n)
+}
+
+// A coordinate after a space.
+fn add_coordinate(alloc: Global, out: &mut Vec<u8>, x: i64, digits: u8) -> Result<(), AllocError>
+    requires { digits ≤ FINEST_GRID }
+    ensures added { OnOk result (out.new.items ≡ out.old.items ++ 32 ∷ grid_decimal x digits) }
+    ensures kept { OnErr result (Begins out.old.items out.new.items) }
+{
+    add(out, b" ")?;
+    grid_text(alloc, x, digits, out)
 }
 
 // Adds bytes; where memory is wanting, none.

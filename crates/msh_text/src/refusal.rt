@@ -2,28 +2,17 @@
 ghost use Rattle.std.specs.Prelude.{◌≡◌};
 ghost use Rattle.msh_text.specs.declared.refusal.ReadMshErr.TheVariants.{Memory};
 
+use mesh_words::MshKind;
 use std::alloc::{AllocError, AllocFailed};
 
-/// What is wrong with a mesh text.
-#[derive(Clone, Copy, Debug, PartialEq, Eq)]
-pub enum MshKind {
-    /// The text isn't in the first form.
-    FirstForm,
-}
-
-/// What is wrong, and in which line. The line is 0 where no line is named.
+/// What is wrong with a mesh text, and in which line, counted from 1.
 #[derive(Clone, Copy, Debug, PartialEq, Eq)]
 pub struct MshErr {
     pub line: u64,
     pub kind: MshKind,
 }
 
-pub const FIRST_FORM: ReadMshErr = ReadMshErr::Text(MshErr {
-    line: 0,
-    kind: MshKind::FirstForm,
-});
-
-/// Why no mesh was read: memory was wanting, or the text is refused.
+/// Why no mesh was read: memory was wanting, or the text has a fault.
 #[derive(Clone, Copy, Debug, PartialEq, Eq)]
 pub enum ReadMshErr {
     Memory,

@@ -27,12 +27,37 @@ fn meshes_that_are_accepted(rt: HostRuntime) -> Result<(), Fail> {
     Ok(())
 }
 
+// A tetrahedron with edges of 0.1, with the names and the triangle that Gmsh writes, and lines that end with CR LF.
+#[test]
+fn a_mesh_with_decimals(rt: HostRuntime) -> Result<(), Fail> {
+    let mesh = [
+        "$MeshFormat\r\n2.2 0 8\r\n$EndMeshFormat\r\n$PhysicalNames\r\n1\r\n3 5 \"body\"\r\n$EndPhysicalNames\r\n",
+        "$Nodes\r\n4\r\n1 0 0 0\r\n2 0.09999999999999998 0 0\r\n30 0 0.1 0\r\n4 0 0 1e-01\r\n$EndNodes\r\n",
+        "$Elements\r\n2\r\n1 2 2 0 1 1 2 30\r\n2 4 2 5 1 1 2 30 4\r\n$EndElements\r\n",
+    ];
+    let tail = "$EndNodes\n$Elements\n1\n2 4 2 5 1 1 2 30 4\n$EndElements\n";
+    let nodes = "1 0 0 0\n2 0.1 0 0\n30 0 0.1 0\n4 0 0 0.1\n";
+    let fallen = "1 0 0 -0.0002\n2 0.1 0 -0.0002\n30 0 0.1 -0.0002\n4 0 0 0.0998\n";
+    let exact = "mesh = \"t.msh\"\nout = \"o\"\ndigits = 4\nsnap = \"exact\"\n";
+    let nearest = "mesh = \"t.msh\"\nout = \"o\"\ndigits = 4\n";
+    let desk = obeyed(rt.alloc(), &["check", "4", "t.msh", "o"], &mesh, &[])?;
+    assert!(rt; desk.says(0, &[ACCEPTED])?);
+    assert!(rt; desk.has("o_0000.msh", Some(&[HEAD, nodes, tail]))?);
+    let desk = obeyed(rt.alloc(), &RUN, &mesh, &[nearest, FALL, MATERIAL])?;
+    assert!(rt; desk.says(0, &LINES)?);
+    assert!(rt; desk.has("o_0000.msh", Some(&[HEAD, nodes, tail]))?);
+    assert!(rt; desk.has("o_0001.msh", Some(&[HEAD, fallen, tail]))?);
+    let desk = obeyed(rt.alloc(), &RUN, &mesh, &[exact, FALL, MATERIAL])?;
+    assert!(rt; desk.says(6, &["mesh refused: line 11 off grid\n"])?);
+    Ok(())
+}
+
 #[test]
 fn words_of_no_command(rt: HostRuntime) -> Result<(), Fail> {
     let lists: [&[&str]; 6] = [
         &[],
         &["check", "0", "t.msh"],
-        &["check", "1", "t.msh", "o"],
+        &["check", "10", "t.msh", "o"],
         &["check", "0", "t.msh", "o", "o"],
         &["run"],
         &["runs", "f.toml"],
@@ -72,7 +97,13 @@ fn meshes_that_are_refused(rt: HostRuntime) -> Result<(), Fail> {
             "2 16384 0\n",
             "4 0 0 100\n",
             6,
-            "mesh refused: first form\n",
+            "mesh refused: line 7 fields\n",
+        ),
+        (
+            "\n1 100 0 0\n",
+            "x\n",
+            6,
+            "mesh refused: line 8 duplicate node\n",
         ),
     ];
     for (second, fourth, status, line) in table {

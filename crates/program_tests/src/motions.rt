@@ -55,12 +55,14 @@ fn bodies_that_fly_at_one_another_stop_before_they_meet(rt: HostRuntime) -> Resu
 // A soft tetrahedron hangs on the fixed one by a face. The numbers are those of a short program in Python.
 #[test]
 fn a_soft_body_springs_back(rt: HostRuntime) -> Result<(), Fail> {
-    let numbers = "frames = 6\nbudget = 40\ngravity = [0, 0, -5120]\n[material]\ndensity = 1\nmu = 2000\nlambda = 2000\n";
+    let numbers =
+        "frames = 6\nbudget = 40\ngravity = [0, 0, -5120]\n[material]\ndensity = 1\nmu = 2000\nlambda = 2000\n";
     let elements = "$EndNodes\n$Elements\n2\n1 4 2 1 1 1 2 3 4\n2 4 2 2 2 2 3 4 5\n$EndElements\n";
     let mesh = [FORMAT, "5\n", CORNERS, "5 100 100 100\n", elements];
     let mut desk = Desk::new(rt.alloc(), &mesh, &[NAMES, numbers, FIXED])?;
     desk.obey(&RUN)?;
-    let lines = "frame 1 stalled 3\nframe 2 stalled 4\nframe 3 stalled 2\nframe 4 stalled 2\nframe 5 stalled 1\nframe 6 stalled 1\n";
+    let lines =
+        "frame 1 stalled 3\nframe 2 stalled 4\nframe 3 stalled 2\nframe 4 stalled 2\nframe 5 stalled 1\nframe 6 stalled 1\n";
     assert!(rt; desk.says(1, &["mesh nodes 5 tets 2\nframe 0 start\n", lines])?);
     for (name, last) in [
         ("o_0001.msh", "5 102 102 89\n"),

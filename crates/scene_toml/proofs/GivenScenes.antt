@@ -1,22 +1,25 @@
 -- The scene that the values at its keys give.
 use Rattle.std.proofs.Common.{◌≡◌, ℕ, ℤ, List, Ok, refl}
 use Rattle.std.specs.Prelude.{codes, map, unsigned_abs}
+use Rattle.dec_text.specs.declared.Snap.{Snap}
+use Rattle.dec_text.specs.declared.Snap.TheVariants.{Nearest}
 use Rattle.toml.specs.Data.{Members}
 use Rattle.space3.specs.declared.vectors.V3.{V3}
 use Rattle.space3.specs.Vectors.{origin}
 use Rattle.surface_mesh.specs.declared.materials.Material.{Material}
 use Rattle.scene_toml.specs.declared.keys.Section.TheVariants.{Top}
-use Rattle.scene_toml.specs.declared.keys.TheConstants.{NAME_LENGTHS, FRAME_COUNTS, BUDGETS, TOLERANCES, GRAVITIES, CONTACT_DISTANCES, STIFFNESSES, ZERO}
+use Rattle.scene_toml.specs.declared.keys.TheConstants.{NAME_LENGTHS, GRIDS, FRAME_COUNTS, BUDGETS, TOLERANCES, GRAVITIES, CONTACT_DISTANCES, STIFFNESSES, NO_RANGE}
 use Rattle.scene_toml.specs.declared.parts.PartKeys.{PartKeys}
-use Rattle.scene_toml.specs.Calls.{integer_at, material_at, parts_at, text_at, vector_at}
+use Rattle.scene_toml.specs.Calls.{integer_at, material_at, parts_at, snap_at, text_at, vector_at}
 use Rattle.scene_toml.specs.Keys.{key}
 use Rattle.scene_toml.specs.Parts.{with_base}
 use Rattle.scene_toml.specs.Scenes.{scene_in}
 
-pub scene_given : (ms : Members) (mesh out : List ℕ) (digits frames budget tol : ℤ) (gravity : V3) (dhat kappa : ℤ) (base : Material) (parts : List PartKeys)
+pub scene_given : (ms : Members) (mesh out : List ℕ) (digits : ℤ) (snap : Snap) (frames budget tol : ℤ) (gravity : V3) (dhat kappa : ℤ) (base : Material) (parts : List PartKeys)
     → text_at Top (key (codes "mesh") NAME_LENGTHS) ms ≡ Ok mesh
     → text_at Top (key (codes "out") NAME_LENGTHS) ms ≡ Ok out
-    → integer_at Top (key (codes "digits") ZERO) ms ≡ Ok digits
+    → integer_at Top (key (codes "digits") GRIDS) ms ≡ Ok digits
+    → snap_at Top (key (codes "snap") NO_RANGE) Nearest ms ≡ Ok snap
     → integer_at Top (key (codes "frames") FRAME_COUNTS) ms ≡ Ok frames
     → integer_at Top (key (codes "budget") BUDGETS) ms ≡ Ok budget
     → integer_at Top (key (codes "tol") TOLERANCES) ms ≡ Ok tol
@@ -29,10 +32,11 @@ pub scene_given : (ms : Members) (mesh out : List ℕ) (digits frames budget tol
       mesh = mesh;
       out = out;
       digits = unsigned_abs digits;
+      snap = snap;
       frames = unsigned_abs frames;
       budget = unsigned_abs budget;
       tol = tol;
       numbers = record { base = base; parts = map (with_base base) parts; kappa = kappa; dhat = dhat; gravity = gravity };
     })
-scene_given ms mesh out digits frames budget tol gravity dhat kappa base parts mesh-is out-is digits-is frames-is budget-is tol-is gravity-is dhat-is kappa-is base-is parts-is =
-    rw (mesh-is, out-is, digits-is, frames-is, budget-is, tol-is, gravity-is, dhat-is, kappa-is, base-is, parts-is) refl
+scene_given ms mesh out digits snap frames budget tol gravity dhat kappa base parts mesh-is out-is digits-is snap-is frames-is budget-is tol-is gravity-is dhat-is kappa-is base-is parts-is =
+    rw (mesh-is, out-is, digits-is, snap-is, frames-is, budget-is, tol-is, gravity-is, dhat-is, kappa-is, base-is, parts-is) refl

@@ -1,5 +1,5 @@
 -- What is read is in its key's range.
-use Rattle.std.proofs.Common.{IfOk, ◌≡◌, ◌^◌, ◌+◌, ◌≤◌, ℕ, ℤ, pos, neg_ℤ, ◌≤ℤ◌, List, [], ◌∷◌, ◌++◌, length, map, Bool, true, false, int_le, Option, Some, None, Result, Ok, Err, if◌then◌else◌, refl, sym, ap, subst, arith}
+use Rattle.std.proofs.Common.{IfOk, ◌≡◌, ◌^◌, ◌+◌, ◌≤◌, ℕ, ℤ, pos, neg_ℤ, ◌≤ℤ◌, List, [], ◌∷◌, ◌++◌, length, Bool, true, false, int_le, Option, Some, None, Result, Ok, Err, if◌then◌else◌, refl, sym, ap, subst, arith}
 use Rattle.std.specs.Prelude.{All, IfSome, unwrap_or}
 use Rattle.std.proofs.lemmas.List.{length-append, length-map}
 use Rattle.std.proofs.lemmas.List.Elements.{All-nil, All-cons, All-append, All-map, All-weaker}
@@ -8,20 +8,21 @@ use Rattle.std.proofs.lemmas.Float.{T_from_true}
 use Rattle.std.proofs.lemmas.Int.{ints}
 use Rattle.std.specs.Int.Signed.{le_z_yes}
 use Rattle.std.specs.Prelude.{codes, unsigned_abs}
+use Rattle.dec_text.specs.declared.Snap.TheVariants.{Nearest}
 use Rattle.toml.specs.Data.{Data, string, integer, array, table, Items, no_items, item, Members, get_member}
 use Rattle.space3.specs.declared.vectors.V3.{V3}
 use Rattle.space3.specs.Vectors.{AtMost, Within, origin}
 use Rattle.surface_mesh.specs.declared.materials.Material.{Material}
 use Rattle.whole_laws.specs.Ranges.{IsFrom}
 use Rattle.surface_mesh.specs.Materials.{IsMaterial}
-use Rattle.scene_toml.specs.declared.keys.TheConstants.{NAME_LENGTHS, FRAME_COUNTS, BUDGETS, TOLERANCES, GRAVITIES, CONTACT_DISTANCES, STIFFNESSES, DENSITIES, MODULI, VELOCITIES, ZERO}
+use Rattle.scene_toml.specs.declared.keys.TheConstants.{NAME_LENGTHS, GRIDS, FRAME_COUNTS, BUDGETS, TOLERANCES, GRAVITIES, CONTACT_DISTANCES, STIFFNESSES, DENSITIES, MODULI, VELOCITIES, NO_RANGE}
 use Rattle.scene_toml.specs.declared.keys.Section.{Section}
 use Rattle.scene_toml.specs.declared.keys.Section.TheVariants as sections
 use Rattle.scene_toml.specs.declared.refusal.SceneErr.{SceneErr}
 use Rattle.scene_toml.specs.declared.refusal.ReadSceneErr.{ReadSceneErr}
 use Rattle.scene_toml.specs.declared.scene.Scene.{Scene}
 use Rattle.scene_toml.specs.Gives.{Gives}
-use Rattle.scene_toml.specs.Calls.{bool_at, integer_at, material_at, material_in, new_tag_at, optional_bool_at, optional_integer_at, optional_vector_at, parts_at, text_at, vector_at}
+use Rattle.scene_toml.specs.Calls.{bool_at, integer_at, material_at, material_in, new_tag_at, optional_bool_at, optional_integer_at, optional_vector_at, parts_at, snap_at, text_at, vector_at}
 use Rattle.scene_toml.specs.declared.parts.PartKeys.{PartKeys}
 use Rattle.scene_toml.specs.Parts.{are_tables, count_of, not_tables, part, part_in, parts_from, parts_of, with_base}
 use Rattle.scene_toml.specs.Keys.{Key, key}
@@ -101,7 +102,7 @@ material_in-holds ms material e =
     and_then-ok (integer_at sections.Material (key (codes "density") DENSITIES) ms) _ material e
     (λ density density-is e. and_then-ok (integer_at sections.Material (key (codes "mu") MODULI) ms) _ material e
     (λ mu mu-is e. and_then-ok (integer_at sections.Material (key (codes "lambda") MODULI) ms) _ material e
-    (λ lambda lambda-is e. and_then-ok (bool_at sections.Material (key (codes "fixed") ZERO) false ms) _ material e
+    (λ lambda lambda-is e. and_then-ok (bool_at sections.Material (key (codes "fixed") NO_RANGE) false ms) _ material e
     (λ fixed fixed-is e. and_then-ok (vector_at sections.Material (key (codes "velocity") VELOCITIES) origin ms) _ material e
     (λ velocity velocity-is e.
     let velocity_from = vector_of-holds sections.Material (key (codes "velocity") VELOCITIES) origin (get_member (codes "velocity") ms) velocity (at_rest _ _ (omega arith) (omega arith)) velocity-is in
@@ -139,7 +140,7 @@ part_in-holds earlier ms part e =
     (λ tag tag-is e. and_then-ok (optional_integer_at section (key (codes "density") DENSITIES) ms) _ part e
     (λ density density-is e. and_then-ok (optional_integer_at section (key (codes "mu") MODULI) ms) _ part e
     (λ mu mu-is e. and_then-ok (optional_integer_at section (key (codes "lambda") MODULI) ms) _ part e
-    (λ lambda lambda-is e. and_then-ok (optional_bool_at section (key (codes "fixed") ZERO) ms) _ part e
+    (λ lambda lambda-is e. and_then-ok (optional_bool_at section (key (codes "fixed") NO_RANGE) ms) _ part e
     (λ fixed fixed-is e. and_then-ok (optional_vector_at section (key (codes "velocity") VELOCITIES) ms) _ part e
     (λ velocity velocity-is e. subst IsPart (ok_same _ part e) (record {
       density = integer_if section (key (codes "density") DENSITIES) ms density density-is;
@@ -205,7 +206,8 @@ scene_in-holds : (ms : Members) (scene : Scene) → scene_in ms ≡ Ok scene →
 scene_in-holds ms scene e =
     and_then-ok (text_at sections.Top (key (codes "mesh") NAME_LENGTHS) ms) _ scene e (λ mesh mesh-is e.
     and_then-ok (text_at sections.Top (key (codes "out") NAME_LENGTHS) ms) _ scene e (λ out out-is e.
-    and_then-ok (integer_at sections.Top (key (codes "digits") ZERO) ms) _ scene e (λ digits digits-is e.
+    and_then-ok (integer_at sections.Top (key (codes "digits") GRIDS) ms) _ scene e (λ digits digits-is e.
+    and_then-ok (snap_at sections.Top (key (codes "snap") NO_RANGE) Nearest ms) _ scene e (λ snap snap-is e.
     and_then-ok (integer_at sections.Top (key (codes "frames") FRAME_COUNTS) ms) _ scene e (λ frames frames-is e.
     and_then-ok (integer_at sections.Top (key (codes "budget") BUDGETS) ms) _ scene e (λ budget budget-is e.
     and_then-ok (integer_at sections.Top (key (codes "tol") TOLERANCES) ms) _ scene e (λ tol tol-is e.
@@ -221,7 +223,7 @@ scene_in-holds ms scene e =
     subst IsScene (ok_same _ scene e) (record {
       mesh = is_name mesh (text_of-holds sections.Top (key (codes "mesh") NAME_LENGTHS) (get_member (codes "mesh") ms) mesh mesh-is);
       out = is_name out (text_of-holds sections.Top (key (codes "out") NAME_LENGTHS) (get_member (codes "out") ms) out out-is);
-      digits = omega (arith, (count_from 0 0 digits (integer_at-holds sections.Top (key (codes "digits") ZERO) ms digits digits-is)).1);
+      digits = (count_from 0 9 digits (integer_at-holds sections.Top (key (codes "digits") GRIDS) ms digits digits-is)).1;
       frames = (count_from 0 9999 frames (integer_at-holds sections.Top (key (codes "frames") FRAME_COUNTS) ms frames frames-is)).1;
       some_budget = budget_from.0;
       budget = budget_from.1;
@@ -234,7 +236,7 @@ scene_in-holds ms scene e =
         dhat = integer_at-holds sections.Top (key (codes "dhat") CONTACT_DISTANCES) ms dhat dhat-is;
         gravity = sizes_of (2 ^ 20) gravity gravity_from;
       };
-    }))))))))))))
+    })))))))))))))
 
 scene_of_members-holds : (unknown : Option (List ℕ)) (ms : Members) (scene : Scene) → unless_unknown unknown (scene_in ms) ≡ Ok scene → IsScene scene
 scene_of_members-holds (Some key) ms scene e = absurd cc

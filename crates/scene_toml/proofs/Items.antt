@@ -1,5 +1,5 @@
 -- The items of an array, one after another.
-use Rattle.std.proofs.Common.{◌≡◌, ◌∙◌, ℕ, ◌+◌, ◌<◌, ℤ, pos, Bool, true, List, [], ◌∷◌, ◌++◌, length, drop, get_or, Option, Some, None, Result, Ok, Err, refl, ap, sym, arith, add-one}
+use Rattle.std.proofs.Common.{◌≡◌, ◌∙◌, ℕ, ◌+◌, ◌<◌, ℤ, pos, true, List, [], ◌∷◌, ◌++◌, length, drop, get_or, Option, Some, Ok, Err, refl, ap, sym, arith, add-one}
 use Rattle.std.proofs.Math.Seq.{drop-cons}
 use Rattle.toml.specs.Data.{Data, array, table, Items, item, Members, as_array, as_table}
 use Rattle.toml.specs.View.{items_view, view}

@@ -1,5 +1,6 @@
 -- Words of the crate's own calls: what stands at a key of a table.
 use Rattle.std.specs.Prelude.{List, ℕ, ℤ, Bool, false, length, codes, Option, Result}
+use Rattle.dec_text.specs.declared.Snap.{Snap}
 use Rattle.toml.specs.Data.{Members, get_member}
 use Rattle.space3.specs.declared.vectors.V3.{V3}
 use Rattle.surface_mesh.specs.declared.materials.Material.{Material}
@@ -11,7 +12,7 @@ use Rattle.scene_toml.specs.Keys.{Key}
 use Rattle.scene_toml.specs.Parts.{new_tag_of, part, parts_of}
 use Rattle.scene_toml.specs.Reading.{read_keys}
 use Rattle.scene_toml.specs.Readings.{material, material_keys, material_of, no_material}
-use Rattle.scene_toml.specs.Values.{bool_of, integer_of, optional, text_of, vector_of}
+use Rattle.scene_toml.specs.Values.{bool_of, integer_of, optional, snap_of, text_of, vector_of}
 
 -- the integer at a key
 abbrev pub integer_at : Section → Key → Members → Result ℤ SceneErr
@@ -20,6 +21,10 @@ integer_at section key members = integer_of section key (get_member key.name mem
 -- the truth value at a key
 abbrev pub bool_at : Section → Key → Bool → Members → Result Bool SceneErr
 bool_at section key absent members = bool_of section key absent (get_member key.name members)
+
+-- the snap at a key
+abbrev pub snap_at : Section → Key → Snap → Members → Result Snap SceneErr
+snap_at section key absent members = snap_of section key absent (get_member key.name members)
 
 -- the text at a key
 abbrev pub text_at : Section → Key → Members → Result (List ℕ) SceneErr

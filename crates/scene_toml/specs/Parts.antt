@@ -1,5 +1,5 @@
 -- The parts of a scene: materials for the tetrahedra of a physical tag.
-use Rattle.std.specs.Prelude.{List, [], ◌∷◌, ◌++◌, ℕ, ◌+◌, ℤ, pos, Bool, true, false, ◌&&◌, codes, length, map, unwrap_or, Option, Some, None, Result, Ok, Err, if◌then◌else◌}
+use Rattle.std.specs.Prelude.{List, [], ◌∷◌, ◌++◌, ℕ, ◌+◌, ℤ, pos, Bool, true, false, codes, length, unwrap_or, Option, Some, None, Result, Ok, Err, if◌then◌else◌}
 use Rattle.std.specs.List.{list_any}
 use Rattle.std.specs.Ordering.{int_eq}
 use Rattle.toml.specs.Data.{Data, array, table, Items, no_items, item, Members}
@@ -7,7 +7,7 @@ use Rattle.space3.specs.declared.vectors.V3.{V3}
 use Rattle.space3.specs.Vectors.{origin}
 use Rattle.surface_mesh.specs.declared.materials.Material.{Material}
 use Rattle.scene_toml.specs.declared.keys.Section.TheVariants as sections
-use Rattle.scene_toml.specs.declared.keys.TheConstants.{DENSITIES, MODULI, PART_COUNTS, TAGS, VELOCITIES, ZERO}
+use Rattle.scene_toml.specs.declared.keys.TheConstants.{DENSITIES, MODULI, PART_COUNTS, TAGS, VELOCITIES, NO_RANGE}
 use Rattle.scene_toml.specs.declared.parts.PartKeys.{PartKeys}
 use Rattle.scene_toml.specs.declared.refusal.SceneErr.{SceneErr}
 use Rattle.scene_toml.specs.declared.refusal.SceneErr.TheVariants.{OutOfRange, WrongType}
@@ -40,8 +40,8 @@ part_keys index earlier =
     ∷ optional_integer index (key (codes "lambda") MODULI) (λ n p. record p { lambda = n })
     ∷ record {
       Value = Option Bool;
-      key = key (codes "fixed") ZERO;
-      read = optional (bool_of (sections.Part index) (key (codes "fixed") ZERO) false);
+      key = key (codes "fixed") NO_RANGE;
+      read = optional (bool_of (sections.Part index) (key (codes "fixed") NO_RANGE) false);
       put = λ b p. record p { fixed = b };
     }
     ∷ record {

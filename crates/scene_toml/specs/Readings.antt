@@ -1,8 +1,9 @@
 -- The keys of each table in the order in which they are tried, and what is read at each.
-use Rattle.std.specs.Prelude.{List, [], ◌∷◌, ℕ, ℤ, pos, Bool, codes, bytes_eq, map, unsigned_abs, false, Option, Some, None, Result, Ok, Err}
+use Rattle.std.specs.Prelude.{List, [], ◌∷◌, ℕ, ℤ, pos, Bool, codes, bytes_eq, map, unsigned_abs, false, Option, Some, None, Result, Err}
 use Rattle.std.specs.List.{list_any}
-use Rattle.std.specs.Option.{option_or}
-use Rattle.toml.specs.Data.{Data, table, Members, get_member}
+use Rattle.dec_text.specs.declared.Snap.{Snap}
+use Rattle.dec_text.specs.declared.Snap.TheVariants.{Nearest}
+use Rattle.toml.specs.Data.{Data, table}
 use Rattle.space3.specs.declared.vectors.V3.{V3}
 use Rattle.space3.specs.Vectors.{origin}
 use Rattle.surface_mesh.specs.declared.materials.Material.{Material}
@@ -10,7 +11,7 @@ use Rattle.surface_mesh.specs.declared.materials.Numbers.{Numbers}
 use Rattle.scene_toml.specs.declared.keys.Range.{Range}
 use Rattle.scene_toml.specs.declared.keys.Section.{Section}
 use Rattle.scene_toml.specs.declared.keys.Section.TheVariants as sections
-use Rattle.scene_toml.specs.declared.keys.TheConstants.{NAME_LENGTHS, FRAME_COUNTS, BUDGETS, TOLERANCES, GRAVITIES, CONTACT_DISTANCES, STIFFNESSES, DENSITIES, MODULI, VELOCITIES, ZERO}
+use Rattle.scene_toml.specs.declared.keys.TheConstants.{NAME_LENGTHS, GRIDS, FRAME_COUNTS, BUDGETS, TOLERANCES, GRAVITIES, CONTACT_DISTANCES, STIFFNESSES, DENSITIES, MODULI, VELOCITIES, NO_RANGE}
 use Rattle.scene_toml.specs.declared.refusal.SceneErr.{SceneErr}
 use Rattle.scene_toml.specs.declared.refusal.SceneErr.TheVariants.{Missing, WrongType}
 use Rattle.scene_toml.specs.declared.scene.Scene.{Scene}
@@ -18,7 +19,7 @@ use Rattle.scene_toml.specs.Keys.{Key, key, printed}
 use Rattle.scene_toml.specs.Parts.{part, part_keys, parts_of, with_base}
 use Rattle.scene_toml.specs.Reading.{Reading, read_keys}
 use Rattle.scene_toml.specs.declared.parts.PartKeys.{PartKeys}
-use Rattle.scene_toml.specs.Values.{bool_of, integer_of, text_of, vector_of}
+use Rattle.scene_toml.specs.Values.{bool_of, integer_of, snap_of, text_of, vector_of}
 
 abbrev pub integer_key : {S : Type 0} → Section → List ℕ → Range → (ℤ → S → S) → Reading S
 integer_key section name range put =
@@ -36,7 +37,12 @@ vector_key section name range absent put =
 -- true or false, which may be absent
 abbrev pub bool_key : {S : Type 0} → Section → List ℕ → Bool → (Bool → S → S) → Reading S
 bool_key section name absent put =
-    record { Value = Bool; key = key name ZERO; read = bool_of section (key name ZERO) absent; put = put }
+    record { Value = Bool; key = key name NO_RANGE; read = bool_of section (key name NO_RANGE) absent; put = put }
+
+-- a word that names a snap, which may be absent
+abbrev pub snap_key : {S : Type 0} → Section → List ℕ → Snap → (Snap → S → S) → Reading S
+snap_key section name absent put =
+    record { Value = Snap; key = key name NO_RANGE; read = snap_of section (key name NO_RANGE) absent; put = put }
 
 abbrev pub material_keys : List (Reading Material)
 material_keys =
@@ -53,7 +59,7 @@ no_material = record { density = pos 0; mu = pos 0; lambda = pos 0; fixed = fals
 
 -- the table of the material
 abbrev pub material : Key
-material = key (codes "material") ZERO
+material = key (codes "material") NO_RANGE
 
 -- the material that its table gives
 abbrev pub material_of : Option Data → Result Material SceneErr
@@ -65,7 +71,8 @@ abbrev pub scene_keys : List (Reading Scene)
 scene_keys =
     text_key sections.Top (codes "mesh") NAME_LENGTHS (λ text s. record s { mesh = text })
     ∷ text_key sections.Top (codes "out") NAME_LENGTHS (λ text s. record s { out = text })
-    ∷ integer_key sections.Top (codes "digits") ZERO (λ n s. record s { digits = unsigned_abs n })
+    ∷ integer_key sections.Top (codes "digits") GRIDS (λ n s. record s { digits = unsigned_abs n })
+    ∷ snap_key sections.Top (codes "snap") Nearest (λ snap s. record s { snap = snap })
     ∷ integer_key sections.Top (codes "frames") FRAME_COUNTS (λ n s. record s { frames = unsigned_abs n })
     ∷ integer_key sections.Top (codes "budget") BUDGETS (λ n s. record s { budget = unsigned_abs n })
     ∷ integer_key sections.Top (codes "tol") TOLERANCES (λ n s. record s { tol = n })
@@ -91,7 +98,16 @@ abbrev pub no_numbers : Numbers
 no_numbers = record { base = no_material; parts = []; kappa = pos 0; dhat = pos 0; gravity = origin }
 
 abbrev pub no_scene : Scene
-no_scene = record { mesh = []; out = []; digits = 0; frames = 0; budget = 0; tol = pos 0; numbers = no_numbers }
+no_scene = record {
+  mesh = [];
+  out = [];
+  digits = 0;
+  snap = Nearest;
+  frames = 0;
+  budget = 0;
+  tol = pos 0;
+  numbers = no_numbers;
+}
 
 -- the keys that a table may have are those that are read in it
 abbrev pub keys_in : Section → List Key

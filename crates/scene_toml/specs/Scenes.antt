@@ -1,6 +1,7 @@
 -- The scene that a text means, or its first fault.
-use Rattle.std.specs.Prelude.{◌≡◌, List, length, ℕ, ◌≤◌, pos, Option, Some, None, Result, Err}
+use Rattle.std.specs.Prelude.{List, length, ℕ, ◌≤◌, pos, Option, Some, None, Result, Err}
 use Rattle.toml.specs.Data.{Members}
+use Rattle.dec_text.specs.declared.TheConstants.{FINEST_GRID}
 use Rattle.whole_laws.specs.Ranges.{IsFrom}
 use Rattle.surface_mesh.specs.Materials.{AreNumbers}
 use Rattle.scene_toml.specs.declared.keys.TheConstants.{NAME_LIMIT, FRAME_LIMIT, BUDGET_LIMIT, TOL_LIMIT}
@@ -40,7 +41,7 @@ pub record IsName (name : List ℕ) : Type 0 where
 pub record IsScene (scene : Scene) : Type 0 where
   pub mesh : IsName scene.mesh
   pub out : IsName scene.out
-  pub digits : scene.digits ≡ 0
+  pub digits : scene.digits ≤ FINEST_GRID
   pub frames : scene.frames ≤ FRAME_LIMIT
   pub some_budget : 1 ≤ scene.budget
   pub budget : scene.budget ≤ BUDGET_LIMIT

@@ -1,6 +1,8 @@
 -- The value at a key, or why it is refused.
-use Rattle.std.specs.Prelude.{List, ℕ, ℤ, pos, length, Bool, Option, Some, None, Result, Ok, Err, ◌&&◌, int_le, if◌then◌else◌}
+use Rattle.std.specs.Prelude.{List, ℕ, ℤ, pos, length, Bool, Option, Some, None, Result, Ok, Err, ◌&&◌, int_le, bytes_eq, codes, if◌then◌else◌}
 use Rattle.toml.specs.Data.{Data, string, boolean, integer, array, Items, no_items, item}
+use Rattle.dec_text.specs.declared.Snap.{Snap}
+use Rattle.dec_text.specs.declared.Snap.TheVariants.{Nearest, Exact}
 use Rattle.space3.specs.declared.vectors.V3.{V3}
 use Rattle.space3.specs.Vectors.{vector}
 use Rattle.scene_toml.specs.declared.keys.Section.{Section}
@@ -29,6 +31,22 @@ abbrev pub bool_of : Section → Key → Bool → Option Data → Result Bool Sc
 bool_of section key absent (Some (boolean b)) = Ok b
 bool_of section key absent (Some _) = Err (WrongType (printed section key.name))
 bool_of section key absent None = Ok absent
+
+-- the snap that a word names
+abbrev pub snap_named : List ℕ → Option Snap
+snap_named word =
+    if bytes_eq word (codes "nearest") then Some Nearest else if bytes_eq word (codes "exact") then Some Exact else None
+
+-- a word's snap; a word that names none is out of range, with its length in bytes
+abbrev pub snap_or_refused : Section → Key → ℤ → Option Snap → Result Snap SceneErr
+snap_or_refused section key length (Some snap) = Ok snap
+snap_or_refused section key length None = Err (OutOfRange (printed section key.name) length)
+
+-- a word that names a snap, or what stands for one that is absent
+abbrev pub snap_of : Section → Key → Snap → Option Data → Result Snap SceneErr
+snap_of section key absent (Some (string word)) = snap_or_refused section key (pos (length word)) (snap_named word)
+snap_of section key absent (Some _) = Err (WrongType (printed section key.name))
+snap_of section key absent None = Ok absent
 
 -- a text whose length in bytes is in the key's range
 abbrev pub text_of : Section → Key → Option Data → Result (List ℕ) SceneErr

@@ -6,6 +6,7 @@ ghost use Rattle.scene_toml.specs.Keys.{prefix, printed};
 ghost use Rattle.scene_toml.specs.Readings.{is_known};
 
 use crate::texts::KeyText;
+use dec_text::FINEST_GRID;
 use itoa::Buffer;
 use space3::NUMBER_LIMIT;
 use std::alloc::{AllocError, Global};
@@ -33,6 +34,9 @@ pub(crate) struct Range(i64, i64);
 
 pub(crate) const NAME_LENGTHS: Range = Range(1, NAME_LIMIT as i64);
 
+/// Digits after the point.
+pub(crate) const GRIDS: Range = Range(0, FINEST_GRID as i64);
+
 pub(crate) const FRAME_COUNTS: Range = Range(0, FRAME_LIMIT as i64);
 
 pub(crate) const BUDGETS: Range = Range(1, BUDGET_LIMIT as i64);
@@ -55,10 +59,10 @@ pub(crate) const PART_COUNTS: Range = Range(0, MOST_PARTS as i64);
 
 pub(crate) const VELOCITIES: Range = Range(-(FASTEST as i64), FASTEST as i64);
 
-/// What is 0 until another value has a meaning: decimal digits.
-pub(crate) const ZERO: Range = Range(0, 0);
+/// What stands for the range of a key that has none: one of a table, of a truth value or of a word.
+pub(crate) const NO_RANGE: Range = Range(0, 0);
 
-/// A key: its name, and what it allows. That of a table or of a truth value has no range.
+/// A key: its name, and what it allows.
 #[derive(Drop)]
 pub(crate) struct Key(&'static str, Range);
 
@@ -83,7 +87,9 @@ pub(crate) const MESH: Key = Key("mesh", NAME_LENGTHS);
 
 pub(crate) const OUT: Key = Key("out", NAME_LENGTHS);
 
-pub(crate) const DIGITS: Key = Key("digits", ZERO);
+pub(crate) const DIGITS: Key = Key("digits", GRIDS);
+
+pub(crate) const SNAP: Key = Key("snap", NO_RANGE);
 
 pub(crate) const FRAMES: Key = Key("frames", FRAME_COUNTS);
 
@@ -97,7 +103,7 @@ pub(crate) const DHAT: Key = Key("dhat", CONTACT_DISTANCES);
 
 pub(crate) const KAPPA: Key = Key("kappa", STIFFNESSES);
 
-pub(crate) const MATERIAL: Key = Key("material", ZERO);
+pub(crate) const MATERIAL: Key = Key("material", NO_RANGE);
 
 pub(crate) const DENSITY: Key = Key("density", DENSITIES);
 
@@ -105,7 +111,7 @@ pub(crate) const MU: Key = Key("mu", MODULI);
 
 pub(crate) const LAMBDA: Key = Key("lambda", MODULI);
 
-pub(crate) const FIXED: Key = Key("fixed", ZERO);
+pub(crate) const FIXED: Key = Key("fixed", NO_RANGE);
 
 pub(crate) const VELOCITY: Key = Key("velocity", VELOCITIES);
 
@@ -113,8 +119,8 @@ pub(crate) const PART: Key = Key("part", PART_COUNTS);
 
 pub(crate) const TAG: Key = Key("tag", TAGS);
 
-const TOP_KEYS: [Key; 11] = [
-    MESH, OUT, DIGITS, FRAMES, BUDGET, TOL, GRAVITY, DHAT, KAPPA, MATERIAL, PART,
+const TOP_KEYS: [Key; 12] = [
+    MESH, OUT, DIGITS, SNAP, FRAMES, BUDGET, TOL, GRAVITY, DHAT, KAPPA, MATERIAL, PART,
 ];
 
 const MATERIAL_KEYS: [Key; 5] = [DENSITY, MU, LAMBDA, FIXED, VELOCITY];

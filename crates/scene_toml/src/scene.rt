@@ -8,13 +8,16 @@ ghost use Rattle.scene_toml.specs.Scenes.{IsScene, scene_in, scene_of_members, s
 
 use crate::keys::{
     BUDGET, DENSITY, DHAT, DIGITS, FIXED, FRAMES, GRAVITY, KAPPA, LAMBDA, MATERIAL, MESH, MU, OUT,
-    Section, TOL, VELOCITY,
+    SNAP, Section, TOL, VELOCITY,
 };
 use crate::parts::{PartKeys, parts_at};
 use crate::refusal::{ReadSceneErr, SceneErr};
 use crate::tables::{first_unknown, value_at};
 use crate::texts::NameText;
-use crate::values::{ORIGIN, bool_at, integer_at, missing, text_at, vector_at, wrong_type};
+use crate::values::{
+    ORIGIN, bool_at, integer_at, missing, snap_at, text_at, vector_at, wrong_type,
+};
+use dec_text::Snap;
 use std::alloc::{AllocError, Global};
 use surface_mesh::{Material, Numbers, PartList};
 use toml::Table;
@@ -26,8 +29,10 @@ pub struct Scene {
     pub mesh: NameText,
     /// What the names of the frames' files begin with, of 1 to 200 bytes.
     pub out: NameText,
-    /// A grid unit is 10^-digits of the mesh file's unit. Always 0.
+    /// A grid unit is 10^-digits of the mesh file's unit, 0 to 9.
     pub digits: u8,
+    /// What is done with coordinates of the mesh file that aren't on this grid.
+    pub snap: Snap,
     /// The number of frames after the first, at most 9999.
     pub frames: u32,
     /// The most steps of a frame, 1 to 1000.
@@ -100,6 +105,7 @@ fn scene_in(alloc: Global, table: &Table) -> Result<Scene, ReadSceneErr>
     let mesh = text_at(alloc, Section::Top, &MESH, table)?;
     let out = text_at(alloc, Section::Top, &OUT, table)?;
     let digits = integer_at(alloc, Section::Top, &DIGITS, table)?;
+    let snap = snap_at(alloc, Section::Top, &SNAP, Snap::Nearest, table)?;
     let frames = integer_at(alloc, Section::Top, &FRAMES, table)?;
     let budget = integer_at(alloc, Section::Top, &BUDGET, table)?;
     let tol = integer_at(alloc, Section::Top, &TOL, table)?;
@@ -113,6 +119,7 @@ fn scene_in(alloc: Global, table: &Table) -> Result<Scene, ReadSceneErr>
         mesh,
         out,
         digits: digits as u8,
+        snap,
         frames: frames as u32,
         budget: budget as u32,
         tol,

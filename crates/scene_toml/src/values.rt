@@ -3,16 +3,17 @@ ghost use Rattle.std.specs.Prelude.{◌≡◌, IfOk};
 ghost use Rattle.toml.specs.View.{items_view, table_view};
 ghost use Rattle.whole_laws.specs.Ranges.{IsFrom};
 ghost use Rattle.scene_toml.specs.declared.refusal.ReadSceneErr.TheVariants.{Scene};
-ghost use Rattle.scene_toml.specs.declared.refusal.SceneErr.TheVariants.{Missing, WrongType};
+ghost use Rattle.scene_toml.specs.declared.refusal.SceneErr.TheVariants.{Missing, OutOfRange, WrongType};
 ghost use Rattle.scene_toml.specs.Gives.{Gives};
 ghost use Rattle.scene_toml.specs.Keys.{printed};
-ghost use Rattle.scene_toml.specs.Calls.{bool_at, integer_at, optional_bool_at, optional_integer_at, optional_vector_at, text_at, vector_at};
-ghost use Rattle.scene_toml.specs.Values.{in_range, components_of, three_integers};
+ghost use Rattle.scene_toml.specs.Calls.{bool_at, integer_at, optional_bool_at, optional_integer_at, optional_vector_at, snap_at, text_at, vector_at};
+ghost use Rattle.scene_toml.specs.Values.{in_range, components_of, snap_named, three_integers};
 
 use crate::keys::{Key, Section};
 use crate::refusal::{ReadSceneErr, SceneErr};
 use crate::tables::value_at;
 use crate::texts::NameText;
+use dec_text::Snap;
 use space3::V3;
 use std::alloc::{AllocError, Global};
 use toml::{Table, Value};
@@ -43,6 +44,19 @@ pub(crate) fn wrong_type(
     Ok(ReadSceneErr::Scene(SceneErr::WrongType { key }))
 }
 
+/// The refusal of this value at the key.
+pub(crate) fn out_of_range(
+    alloc: Global,
+    section: Section,
+    key: &Key,
+    value: i64,
+) -> Result<ReadSceneErr, AllocError>
+    ensures { IfOk result (λ e. e ≡ Scene (OutOfRange (printed section key.now.name) value)) }
+{
+    let key = key.printed(alloc, section)?;
+    Ok(ReadSceneErr::Scene(SceneErr::OutOfRange { key, value }))
+}
+
 // The number, where it lies in the key's range.
 pub(crate) fn in_range(
     alloc: Global,
@@ -56,8 +70,7 @@ pub(crate) fn in_range(
     if key.allows(number) {
         return Ok(number);
     }
-    let key = key.printed(alloc, section)?;
-    Err(ReadSceneErr::Scene(SceneErr::OutOfRange { key, value: number }))
+    Err(out_of_range(alloc, section, key, number)?)
 }
 
 /// The integer at a key, which has to lie in the key's range.
@@ -95,6 +108,39 @@ pub(crate) fn bool_at(
     match value.as_bool() {
         Some(truth) => Ok(truth),
         None => Err(wrong_type(alloc, section, key)?),
+    }
+}
+
+// The snap that a word names.
+fn snap_named(word: &str) -> Option<Snap>
+    ensures { result ≡ snap_named word.now }
+{
+    match word {
+        "nearest" => Some(Snap::Nearest),
+        "exact" => Some(Snap::Exact),
+        _ => None,
+    }
+}
+
+/// The snap that is named at a key, or what stands for one that is absent.
+pub(crate) fn snap_at(
+    alloc: Global,
+    section: Section,
+    key: &Key,
+    absent: Snap,
+    table: &Table,
+) -> Result<Snap, ReadSceneErr>
+    ensures { Gives result (snap_at section key.now absent (table_view table.now)) }
+{
+    let Some(value) = value_at(table, key.name()) else {
+        return Ok(absent);
+    };
+    let Some(word) = value.as_str() else {
+        return Err(wrong_type(alloc, section, key)?);
+    };
+    match snap_named(word) {
+        Some(snap) => Ok(snap),
+        None => Err(out_of_range(alloc, section, key, word.len() as i64)?),
     }
 }
 

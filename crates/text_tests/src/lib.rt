@@ -6,6 +6,8 @@
 #[cfg(test)]
 mod decimals;
 #[cfg(test)]
+mod faults;
+#[cfg(test)]
 mod lines;
 #[cfg(test)]
 mod logarithms;

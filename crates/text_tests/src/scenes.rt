@@ -1,4 +1,5 @@
 //! Scenes as texts, and what is said of those that are refused.
+use dec_text::Snap;
 use scene_toml::{ReadSceneErr, SceneErr, read_scene};
 use std::alloc::Global;
 use std::test::Fail;
@@ -18,13 +19,21 @@ mu = 0
 lambda = 0
 ";
 
+fn snap_word(snap: Snap) -> &'static str {
+    match snap {
+        Snap::Nearest => "nearest",
+        Snap::Exact => "exact",
+    }
+}
+
 /// What is said of a text: the names and a few numbers of its scene, or its fault.
 fn said(alloc: Global, text: &[u8]) -> Result<String, Fail> {
     Ok(match read_scene(alloc, text) {
         Ok(scene) => {
             let (mesh, out) = (scene.mesh.text(), scene.out.text());
+            let (digits, snap) = (scene.digits, snap_word(scene.snap));
             let (frames, gravity) = (scene.frames, scene.numbers.gravity.z);
-            format!(in alloc; "{mesh} {out} {frames} {gravity}")?
+            format!(in alloc; "{mesh} {out} {digits} {snap} {frames} {gravity}")?
         }
         Err(ReadSceneErr::Memory) => format!(in alloc; "memory")?,
         Err(ReadSceneErr::Scene(fault)) => match fault {
@@ -47,11 +56,21 @@ fn said_with(alloc: Global, part: &str, other: &str) -> Result<String, Fail> {
 #[test]
 fn a_scene_is_read(rt: HostRuntime) -> Result<(), Fail> {
     let alloc = rt.alloc();
-    assert_eq!(rt; said(alloc, FALL.as_bytes())?.as_str(), "t.msh fall 3 -512");
+    assert_eq!(rt;
+        said(alloc, FALL.as_bytes())?.as_str(),
+        "t.msh fall 0 nearest 3 -512"
+    );
     assert_eq!(rt;
         said_with(alloc, "gravity = [0, 0, -512]\n", "")?.as_str(),
-        "t.msh fall 3 0"
+        "t.msh fall 0 nearest 3 0"
     );
+    for (snap, read) in [
+        ("snap = \"exact\"", "t.msh fall 7 exact 3 -512"),
+        ("snap = 'nearest'", "t.msh fall 7 nearest 3 -512"),
+    ] {
+        let keys = format!(in alloc; "digits = 7\n{snap}")?;
+        assert_eq!(rt; said_with(alloc, "digits = 0", &keys)?.as_str(), read);
+    }
     assert_eq!(rt;
         said_with(
             alloc,
@@ -59,7 +78,7 @@ fn a_scene_is_read(rt: HostRuntime) -> Result<(), Fail> {
             "lambda = 0\nfixed = true\nvelocity = [-65536, 65536, 0]"
         )?
         .as_str(),
-        "t.msh fall 3 -512"
+        "t.msh fall 0 nearest 3 -512"
     );
     Ok(())
 }
@@ -99,6 +118,14 @@ fn the_first_fault_is_named(rt: HostRuntime) -> Result<(), Fail> {
             "wrong type material.fixed",
         ),
         ("frames = 3", "frames = true", "wrong type frames"),
+        ("digits = 0", "digits = true", "wrong type digits"),
+        ("frames = 3", "snap = 1\nframes = -1", "wrong type snap"),
+        (
+            "digits = 0",
+            "digits = 10\nsnap = \"near\"",
+            "out of range digits 10",
+        ),
+        ("frames = 3", "snap = \"nearer\"", "out of range snap 6"),
         ("\"fall\"", "\"\"", "out of range out 0"),
         ("-512]", "-512, 0]", "wrong type gravity"),
         ("[0, 0, -512]", "[2000000, 0]", "wrong type gravity"),
@@ -177,7 +204,7 @@ fn said_at(alloc: Global, key: &str, line: &str, value: i64) -> Result<String, F
 fn each_integer_has_its_range(rt: HostRuntime) -> Result<(), Fail> {
     let alloc = rt.alloc();
     for (key, line, [below, least, most, above]) in [
-        ("digits", "digits = 0\n", [-1, 0, 0, 1]),
+        ("digits", "digits = 0\n", [-1, 0, 9, 10]),
         ("frames", "frames = 3\n", [-1, 0, 9999, 10000]),
         ("budget", "budget = 10\n", [0, 1, 1000, 1001]),
         ("tol", "tol = 0\n", [-1, 0, 1 << 62, (1 << 62) + 1]),

@@ -1,4 +1,5 @@
 //! Files and consoles: that each call fails in its turn and names its file, and what the system's files do.
+use dec_text::Snap;
 use msh_text::read_msh;
 use shelf_io::{Failed, MemShelf, MemSink, OsShelf, OsSink, ReadErr, read_all, say_all, write_all};
 use std::alloc::{AllocError, Allocator, Global};
@@ -112,7 +113,10 @@ fn a_mesh_of_many_nodes(rt: HostRuntime) -> Result<(), Fail> {
         match read_all(alloc, &mut shelf, "t.msh", 1 << 20) {
             Ok(bytes) => {
                 assert!(rt; bytes.len() > 4096);
-                assert!(rt; read_msh(alloc, &bytes).is_ok() == accepted, "at {last}");
+                assert!(rt;
+                    read_msh(alloc, &bytes, 0, Snap::Exact).is_ok() == accepted,
+                    "at {last}"
+                );
             }
             Err(_) => assert!(rt; false),
         }

@@ -11,7 +11,7 @@ use Rattle.ipc_top.specs.Jobs.{Job}
 
 -- the command that the code holds
 abbrev pub asked : HeldCommand → Command
-asked (held.Check mesh out) = Check mesh.now out.now
+asked (held.Check digits mesh out) = Check digits.count mesh.now out.now
 asked (held.RunScene scene) = RunScene scene.now
 
 -- the job that the code holds, for bodies of these numbers
@@ -19,6 +19,8 @@ abbrev pub job_of : HeldJob → Numbers → Job
 job_of job numbers = record {
   mesh = job.mesh.now;
   out = job.out.now;
+  digits = job.digits.count;
+  snap = job.snap;
   numbers = numbers;
   tol = job.tol;
   budget = job.budget;

@@ -10,7 +10,7 @@ pub returns-in_err-setup-clause-obeys : goal.returns-in_err-setup-clause-obeys
 returns-in_err-setup-clause-obeys g c = job_ended (job_of c.args.job.now c.args.numbers) _ _ c.from_residual.ensures.1 c.in_err-setup.ensures.takes
 
 pub returns-in_err-setup-clause-too_long : goal.returns-in_err-setup-clause-too_long
-returns-in_err-setup-clause-too_long g c = ten_taken c.args.job.now.mesh.now MESH_LIMIT (MeshMeans c.args.numbers) _ _ c.from_residual.ensures.1 c.in_err-setup.ensures.takes
+returns-in_err-setup-clause-too_long g c = ten_taken c.args.job.now.mesh.now MESH_LIMIT (MeshMeans (job_of c.args.job.now c.args.numbers)) _ _ c.from_residual.ensures.1 c.in_err-setup.ensures.takes
 
 pub returns-clause-obeys : goal.returns-clause-obeys
 returns-clause-obeys g c = job_moved (job_of c.args.job.now c.args.numbers) c.in_ok-setup.setup _ c.in_ok-setup.ensures.takes c.show_motion.ensures

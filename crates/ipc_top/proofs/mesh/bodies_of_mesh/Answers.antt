@@ -1,4 +1,3 @@
-use Rattle.std.proofs.Common.{◌≡◌}
 use Rattle.surface_mesh.specs.Setup.{setup_of}
 use Rattle.ipc_top.specs.Meshes.{Bodies, MeshMakes, SetupMeans}
 use Rattle.ipc_top.proofs.Taking.{looked_as}

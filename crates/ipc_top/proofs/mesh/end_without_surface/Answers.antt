@@ -1,6 +1,5 @@
 use Rattle.std.proofs.Common.{◌≡◌, refl}
-use Rattle.boundary.specs.declared.refusal.SurfErr.{SurfErr}
-use Rattle.boundary.specs.declared.refusal.SurfErr.TheVariants.{Memory, FaceThrice, FaceSame, TooManyTriangles}
+use Rattle.boundary.specs.declared.refusal.SurfErr.TheVariants.{Memory}
 use Rattle.ipc_top.specs.Meshes.{MeshMakes, NoSurface, surface_refused_plan}
 use Rattle.ipc_top.proofs.Outcomes.{makes_texts, refusal_is_outcome, some_making}
 use Rattle.ipc_top.proofs.Taking.{looked_nothing, looked_refused}

@@ -21,7 +21,7 @@ returns-in_err-say g c =
     let line : c.deref.result.now ≡ accepted_line (length setup.mesh.numbers) (length setup.mesh.tets) = c.deref.ensures.value ∙ c.in_ok-line.ensures ∙ cc (c.items.ensures, c.items-2.ensures) in
     does_same _ _ _ _ _ (same_start line refl refl)
     (does_stopped _ _ c.from_residual-in_err-say.ensures.1
-    (stops_before (Say c.deref.result.now ∷ []) (Put (frame_name c.args.job.now.out.now 0) (frame_text setup.mesh setup.mesh.places) ∷ Say start_line ∷ []) (c.in_err-say.ensures (g.S.Shelf.state c.args.shelf.now))))
+    (stops_before (Say c.deref.result.now ∷ []) (Put (frame_name c.args.job.now.out.now 0) (frame_text setup.mesh setup.mesh.places c.args.job.now.digits.count) ∷ Say start_line ∷ []) (c.in_err-say.ensures (g.S.Shelf.state c.args.shelf.now))))
 
 pub returns : goal.returns
 returns g c =

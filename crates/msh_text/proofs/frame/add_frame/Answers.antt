@@ -11,10 +11,10 @@ returns-clause-added c =
     let mesh = c.args.mesh.now in
     let places = c.args.places.now in
     let nodes : c.add_number.new.out.items ≡ c.add.new.out.items ++ decimal (length mesh.numbers) = search rules in
-    let lines : c.add_nodes.new.out.items ≡ c.add-2.new.out.items ++ flat_map line_of (map node_row (zip mesh.numbers places)) = search rules in
+    let lines : c.add_nodes.new.out.items ≡ c.add-2.new.out.items ++ flat_map line_of (map (node_row c.args.digits) (zip mesh.numbers places)) = search rules in
     let tets : c.add_number-2.new.out.items ≡ c.add-3.new.out.items ++ decimal (length mesh.tets) = search rules in
     let more_lines : c.add_tets.new.out.items ≡ c.add-4.new.out.items ++ flat_map line_of (map (tet_row mesh.numbers) mesh.tets) = search rules in
-    frame_whole mesh places c.args.out.now.items c.add.new.out.items c.add_number.new.out.items c.add-2.new.out.items c.add_nodes.new.out.items c.add-3.new.out.items c.add_number-2.new.out.items
+    frame_whole mesh places c.args.digits c.args.out.now.items c.add.new.out.items c.add_number.new.out.items c.add-2.new.out.items c.add_nodes.new.out.items c.add-3.new.out.items c.add_number-2.new.out.items
     c.add-4.new.out.items c.add_tets.new.out.items c.add-5.new.out.items
     c.in_ok-add.ensures.added nodes c.in_ok-add-2.ensures.added lines c.in_ok-add-3.ensures.added tets c.in_ok-add-4.ensures.added more_lines c.in_ok-add-5.ensures.added
 

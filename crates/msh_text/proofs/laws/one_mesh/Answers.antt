@@ -1,5 +1,5 @@
-use Rattle.msh_text.proofs.WhatIsMeantIsRead as again
+use Rattle.msh_text.proofs.Meaning.{one_mesh_of}
 use Rattle.msh_text.proofs.laws.one_mesh.Goals as goal
 
 pub returns : goal.returns
-returns c = again.one_mesh
+returns c = one_mesh_of

@@ -1,5 +1,0 @@
-use Rattle.gmsh_text.proofs.FrameMeans.{frame_means}
-use Rattle.gmsh_text.proofs.laws.frame_reads_back.Goals as goal
-
-pub returns : goal.returns
-returns c = frame_means

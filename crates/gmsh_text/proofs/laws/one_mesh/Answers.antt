@@ -1,5 +1,0 @@
-use Rattle.gmsh_text.proofs.Meaning.{one_mesh_of}
-use Rattle.gmsh_text.proofs.laws.one_mesh.Goals as goal
-
-pub returns : goal.returns
-returns c = one_mesh_of

@@ -1,7 +1,0 @@
-use Rattle.std.proofs.Common.{refl}
-use Rattle.gmsh_text.specs.FirstFault.{kind_on}
-use Rattle.gmsh_text.proofs.steps.at_elements_end.Goals as goal
-
-pub returns : goal.returns
-unfolding kind_on
-returns c = rw c.refusal.ensures (c.in-Err.ensures, refl)

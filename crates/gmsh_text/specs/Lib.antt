@@ -1,5 +1,0 @@
-pub mod Calls
-pub mod FirstFault
-pub mod Frame
-pub mod MeshText
-pub mod Texts
