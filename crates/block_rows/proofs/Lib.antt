@@ -1,0 +1,4 @@
+pub mod AddedEntries
+pub mod Bounds
+pub mod Placed
+pub mod EntrySums
