@@ -1,5 +1,5 @@
 -- Rows to which a block is added in its column: what stays of them, and what stands in each column.
-use Rattle.std.proofs.Common.{◌≡◌, ◌∙◌, ◌≢◌, ℕ, suc, ◌+◌, ◌<◌, ◌≤◌, ℤ, pos, ◌+ℤ◌, true, false, List, [], ◌∷◌, inl, inr, refl, sym, ap, subst, arith}
+use Rattle.std.proofs.Common.{◌≡◌, ◌∙◌, ◌≢◌, ℕ, suc, ◌<◌, ◌≤◌, ℤ, pos, ◌+ℤ◌, true, false, List, [], ◌∷◌, inl, inr, refl, sym, ap, subst, arith}
 use Rattle.std.specs.Prelude.{All}
 use Rattle.std.proofs.lemmas.Int.{ints}
 use Rattle.std.proofs.lemmas.Bool.Decides.{nat_tests, leb_tells, eqb_tells}
@@ -61,32 +61,32 @@ module _ (column : ℕ) (block : M3) where
   pub with_above : (e : Entry) (es : List Entry) → column < e.column → with_entry column block (e ∷ es) ≡ entry column block ∷ e ∷ es
   with_above e es h = rw (is_not_lesser e.column column (omega arith), is_other e.column column (λ same. omega arith)) refl
 
-  pub All-with_entry : (P : Entry → Type 0) → P (entry column block) → ((e : Entry) → e.column ≡ column → P e → P (entry column (sum_of_blocks e.block block))) → (row : List Entry) → All P row → All P (with_entry column block row)
-  All-with_entry P new more [] h = All-cons P (entry column block) [] new (All-nil P)
-  All-with_entry P new more (e ∷ es) h = by_order e.column column
-      (λ below. All-same P _ _ (with_below e es below) (All-cons P e _ (All-head P e es h) (All-with_entry P new more es (All-tail P e es h))))
-      (λ same. All-same P _ _ (with_same e es same) (All-cons P _ es (more e same (All-head P e es h)) (All-tail P e es h)))
-      (λ above. All-same P _ _ (with_above e es above) (All-cons P _ (e ∷ es) new h))
+  pub All-with_entry : (P Q : Entry → Type 0) → Q (entry column block) → ((e : Entry) → P e → Q e) → ((e : Entry) → e.column ≡ column → P e → Q (entry column (sum_of_blocks e.block block))) → (row : List Entry) → All P row → All Q (with_entry column block row)
+  All-with_entry P Q new keep more [] h = All-cons Q (entry column block) [] new (All-nil Q)
+  All-with_entry P Q new keep more (e ∷ es) h = by_order e.column column
+      (λ below. All-same Q _ _ (with_below e es below) (All-cons Q e _ (keep e (All-head P e es h)) (All-with_entry P Q new keep more es (All-tail P e es h))))
+      (λ same. All-same Q _ _ (with_same e es same) (All-cons Q _ es (more e same (All-head P e es h)) (All-weaker P Q keep es (All-tail P e es h))))
+      (λ above. All-same Q _ _ (with_above e es above) (All-cons Q _ (e ∷ es) new (All-weaker P Q keep (e ∷ es) h)))
 
   pub ascending-with_entry : (row : List Entry) → IsAscending row → IsAscending (with_entry column block row)
   ascending-with_entry [] h = (All-nil (λ later. column < later.column), tt)
   ascending-with_entry (e ∷ es) h = by_order e.column column
       (λ below. subst IsAscending (sym (with_below e es below))
-          (All-with_entry (λ (x : Entry). e.column < x.column) below (λ x same less. below) es h.0, ascending-with_entry es h.1))
+      (All-with_entry (λ (x : Entry). e.column < x.column) (λ (x : Entry). e.column < x.column) below (λ x less. less) (λ x same less. below) es h.0, ascending-with_entry es h.1))
       (λ same. subst IsAscending (sym (with_same e es same)) (subst (λ (k : ℕ). All (λ (x : Entry). k < x.column) es) same h.0, h.1))
       (λ above. subst IsAscending (sym (with_above e es above))
-          (All-cons (λ (x : Entry). column < x.column) e es above (All-weaker (λ (x : Entry). e.column < x.column) (λ (x : Entry). column < x.column) (λ x less. omega arith) es h.0), h))
+      (All-cons (λ (x : Entry). column < x.column) e es above (All-weaker (λ (x : Entry). e.column < x.column) (λ (x : Entry). column < x.column) (λ x less. omega arith) es h.0), h))
 
   -- the block is added in its column
   pub found_added : (row : List Entry) → IsAscending row → block_in (with_entry column block row) column ≡ sum_of_blocks (block_in row column) block
   found_added [] h = here (entry column block) [] column refl ∙ sym (zero_block block)
   found_added (e ∷ es) h = by_order e.column column
       (λ below. ap (λ (r : List Entry). block_in r column) (with_below e es below) ∙ later e (with_entry column block es) column (λ same. omega arith) ∙ found_added es h.1
-          ∙ ap (λ (m : M3). sum_of_blocks m block) (sym (later e es column (λ same. omega arith))))
+      ∙ ap (λ (m : M3). sum_of_blocks m block) (sym (later e es column (λ same. omega arith))))
       (λ same. ap (λ (r : List Entry). block_in r column) (with_same e es same) ∙ here (entry column (sum_of_blocks e.block block)) es column refl
-          ∙ ap (λ (m : M3). sum_of_blocks m block) (sym (here e es column same)))
+      ∙ ap (λ (m : M3). sum_of_blocks m block) (sym (here e es column same)))
       (λ above. ap (λ (r : List Entry). block_in r column) (with_above e es above) ∙ here (entry column block) (e ∷ es) column refl ∙ sym (zero_block block)
-          ∙ ap (λ (m : M3). sum_of_blocks m block) (sym (absent column (e ∷ es) (All-cons (λ (x : Entry). column < x.column) e es above (All-weaker (λ (x : Entry). e.column < x.column) (λ (x : Entry). column < x.column) (λ x less. omega arith) es h.0)))))
+      ∙ ap (λ (m : M3). sum_of_blocks m block) (sym (absent column (e ∷ es) (All-cons (λ (x : Entry). column < x.column) e es above (All-weaker (λ (x : Entry). e.column < x.column) (λ (x : Entry). column < x.column) (λ x less. omega arith) es h.0)))))
 
   -- all other columns stay
   pub others_stay : (k : ℕ) → column ≢ k → (row : List Entry) → block_in (with_entry column block row) k ≡ block_in row k
@@ -94,5 +94,5 @@ module _ (column : ℕ) (block : M3) where
   others_stay k other (e ∷ es) = by_order e.column column
       (λ below. ap (λ (r : List Entry). block_in r k) (with_below e es below) ∙ ap (λ (m : M3). if e.column == k then e.block else m) (others_stay k other es))
       (λ same. ap (λ (r : List Entry). block_in r k) (with_same e es same) ∙ later (entry column (sum_of_blocks e.block block)) es k other
-          ∙ sym (later e es k (λ (t : e.column ≡ k). other (sym same ∙ t))))
+      ∙ sym (later e es k (λ (t : e.column ≡ k). other (sym same ∙ t))))
       (λ above. ap (λ (r : List Entry). block_in r k) (with_above e es above) ∙ later (entry column block) (e ∷ es) k other)

@@ -1,5 +1,5 @@
 -- What a write or an insertion at the place that a search finds makes of a row.
-use Rattle.std.proofs.Common.{◌≡◌, ◌∙◌, ℕ, zero, suc, ◌+◌, ◌<◌, ◌≤◌, List, [], ◌∷◌, ◌++◌, length, take, drop, set, get_or, map, refl, sym, ap, subst, arith}
+use Rattle.std.proofs.Common.{◌≡◌, ◌∙◌, ℕ, zero, suc, ◌<◌, ◌≤◌, List, [], ◌∷◌, length, set, get_or, sym, ap, subst, arith}
 use Rattle.std.specs.Prelude.{All}
 use Rattle.std.specs.Prelude.{Result, Ok, Err, IfOk, IfErr}
 use Rattle.std.specs.List.{insert}
@@ -73,10 +73,10 @@ module _ (column : ℕ) (block : M3) where
       let less : c.column < column = gap.before 0 c (omega arith) in
       let within : suc i ≤ suc (length cs) = gap.within in
       let rest : IsGapFor cs column i = record {
-            within = omega arith;
-            before = λ j d l. gap.before (suc j) d (omega arith);
-            after = λ j d l m. gap.after (suc j) d (omega arith) (omega arith);
-          } in
+        within = omega arith;
+        before = λ j d l. gap.before (suc j) d (omega arith);
+        after = λ j d l m. gap.after (suc j) d (omega arith) (omega arith);
+      } in
       ap (λ (r : List Entry). wide_entry c ∷ r) (in_gap cs i new is rest)
       ∙ sym (with_below column block (wide_entry c) (wide_entries cs) less)
 

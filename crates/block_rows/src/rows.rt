@@ -33,7 +33,11 @@ impl Model for Rows {
 
 impl Rows {
     // The matrix of sums, cut, with fixed nodes.
-    pub(crate) fn of_sums(alloc: Global, sums: &[WideRow], fixed: &[bool]) -> Result<Self, AllocError>
+    pub(crate) fn of_sums(
+        alloc: Global,
+        sums: &[WideRow],
+        fixed: &[bool],
+    ) -> Result<Self, AllocError>
         requires sums { AreRows sums.now }
         requires each { length fixed.now ≡ length sums.now }
         ensures nodes { IfOk result (λ made. nodes_of made ≡ nodes_of sums.now) }

@@ -1,5 +1,5 @@
 -- Rows of entries: their order, and what adding and cutting make of them.
-use Rattle.std.specs.Prelude.{◌≡◌, ℕ, ◌<◌, ◌==◌, nat_lt, Bool, false, List, [], ◌∷◌, length, map, All, slice_index_or, not, if◌then◌else◌, ⊤}
+use Rattle.std.specs.Prelude.{ℕ, ◌<◌, ◌==◌, nat_lt, Bool, false, List, [], ◌∷◌, map, All, slice_index_or, not, if◌then◌else◌, ⊤}
 use Rattle.std.specs.List.{filter}
 use Rattle.vec_q.specs.Matrices.{M3}
 use Rattle.vec_q.specs.Widths.{AreWithin}

@@ -1,5 +1,5 @@
 -- Products of rows of entries with vectors.
-use Rattle.std.specs.Prelude.{◌≡◌, ℕ, ℤ, ◌*◌, ◌^◌, ◌<◌, List, map, length, All, unsigned_abs}
+use Rattle.std.specs.Prelude.{ℤ, List, map}
 use Rattle.list_laws.specs.Sums.{total}
 use Rattle.space3.specs.declared.vectors.V3.{V3}
 use Rattle.space3.specs.Vectors.{vector}

@@ -1,5 +1,4 @@
 use Rattle.std.proofs.Common.{◌+◌, ◌*◌, ◌^◌, sym, ◌∙◌, ap, subst, arith}
-use Rattle.space3.specs.declared.vectors.V3.{V3}
 use Rattle.space3.specs.Vectors.{Within, sum_of}
 use Rattle.space3.specs.Wide.{unbounded}
 use Rattle.vec_q.specs.Matrices.{times_vector}

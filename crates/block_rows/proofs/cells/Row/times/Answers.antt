@@ -10,4 +10,4 @@ pub cells_times-requires-clause-inside : goal.cells_times-requires-clause-inside
 cells_times-requires-clause-inside c =
     let P = λ (e : Entry). 3 * e.column + 2 < length c.args.p.now in
     subst (λ (cells : List Cell). All (λ cell. P (short_entry cell)) cells) (sym c.deref.ensures.value)
-        (All-map_back P short_entry c.self.inside.cells.items (subst (All P) (sym c.self.view_is) c.requires.inside))
+    (All-map_back P short_entry c.self.inside.cells.items (subst (All P) (sym c.self.view_is) c.requires.inside))
