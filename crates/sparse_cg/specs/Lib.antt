@@ -1,0 +1,5 @@
+pub mod Calls
+pub mod Directions
+pub mod Jacobi
+pub mod Systems
+pub mod Turns

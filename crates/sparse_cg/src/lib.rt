@@ -1,0 +1,8 @@
+//! Directions from a sparse matrix and a gradient, in whole numbers: Newton's, by conjugate
+//! gradients of at most 200 turns, where these end; and Jacobi's, which there always is.
+#![tactic(auto)]
+
+mod lists;
+mod numbers;
+mod state;
+mod turn;
