@@ -1,3 +1,5 @@
 pub mod Fronts
 pub mod Powers
 pub mod Applied
+pub mod Endings
+pub mod SearchSteps

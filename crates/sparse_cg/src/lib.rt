@@ -4,5 +4,7 @@
 
 mod lists;
 mod numbers;
+mod scale;
+mod search;
 mod state;
 mod turn;

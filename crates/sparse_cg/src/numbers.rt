@@ -1,5 +1,5 @@
 //! The numbers of a turn, one by one.
-ghost use Rattle.std.specs.Prelude.{◌≡◌, ◌+◌, ◌^◌, ◌≤◌, ◌<◌, pos, ◌*ℤ◌, ◌<ℤ◌, slice_index_or, length, All, unsigned_abs};
+ghost use Rattle.std.specs.Prelude.{◌≡◌, ◌↔◌, IsTrue, ◌+◌, ◌^◌, ◌≤◌, ◌<◌, pos, ◌*ℤ◌, ◌<ℤ◌, slice_index_or, length, All, unsigned_abs};
 ghost use Rattle.num_q.specs.Rounding.{cut_of, floor_of};
 ghost use Rattle.space3.specs.Vectors.{AtMost};
 ghost use Rattle.sparse_cg.specs.Turns.{moved, ratio};
@@ -66,6 +66,12 @@ pub(crate) fn ratio(a: Q<0, 104>, b: Q<0, 104>) -> Q<20, 60>
 {
     let exact: Q<20, 124> = a.div_floor_into::<20, 0, 104, 20, 124>(b);
     exact.cut_into()
+}
+
+pub(crate) fn is_positive(number: Q<0, 104>) -> bool
+    ensures { IsTrue result ↔ pos 0 <ℤ number.raw }
+{
+    number.raw() > 0
 }
 
 // The number at a place of a list.

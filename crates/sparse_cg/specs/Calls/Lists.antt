@@ -1,5 +1,5 @@
 -- Lists of numbers that are written element by element.
-use Rattle.std.specs.Prelude.{ℕ, ◌≤◌, ◌<◌, ◌+◌, ◌^◌, ℤ, pos, ◌<ℤ◌, ◌-ℤ◌, List, All, unsigned_abs}
+use Rattle.std.specs.Prelude.{ℕ, ◌≤◌, ◌<◌, ◌+◌, ◌^◌, ℤ, pos, ◌<ℤ◌, ◌-ℤ◌, neg_ℤ, List, All, unsigned_abs}
 use Rattle.num_q.specs.Rounding.{floor_of, cut_of}
 
 -- all numbers are below 2^44 in absolute value
@@ -25,3 +25,7 @@ size_of slope = unsigned_abs (cut_of 100 slope)
 pub record IsGreatest (slopes : List ℤ) (most : ℕ) : Type 0 where
   pub above : All (λ slope. size_of slope ≤ most) slopes
   pub least : (bound : ℕ) → 0 < bound → All (λ slope. size_of slope < bound) slopes → most < bound
+
+-- a number of the right side
+abbrev pub target_number : (shift : ℕ) → ℤ → ℤ
+target_number shift slope = floor_of (neg_ℤ (cut_of 100 slope)) (pos (2 ^ shift))
