@@ -3,3 +3,4 @@ pub mod Powers
 pub mod Applied
 pub mod Endings
 pub mod SearchSteps
+pub mod Shifts

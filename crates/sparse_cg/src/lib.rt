@@ -2,9 +2,16 @@
 //! gradients of at most 200 turns, where these end; and Jacobi's, which there always is.
 #![tactic(auto)]
 
+mod directions;
 mod lists;
+
 mod numbers;
 mod scale;
 mod search;
+mod solve;
 mod state;
 mod turn;
+mod work;
+
+pub use solve::{jacobi, newton};
+pub use work::Work;

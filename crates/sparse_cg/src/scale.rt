@@ -1,16 +1,16 @@
 //! The system of a matrix and a gradient: by how many bits it is shortened, its right side and the
 //! divisors.
-ghost use Rattle.std.specs.Prelude.{◌≡◌, ℕ, ◌+◌, ◌*◌, ◌^◌, ◌≤◌, ◌<◌, pos, ◌<ℤ◌, neg_ℤ, map, length, All, unsigned_abs};
+ghost use Rattle.std.specs.Prelude.{◌≡◌, ℕ, ◌+◌, ◌*◌, ◌^◌, ◌≤◌, ◌<◌, pos, ◌<ℤ◌, neg_ℤ, map, length, slice_index_or, slice_set, unsigned_abs};
 ghost use Rattle.std.specs.Int.{int_max};
 ghost use Rattle.num_q.specs.Rounding.{cut_of, floor_of};
-ghost use Rattle.space3.specs.Vectors.{AtMost};
 ghost use Rattle.vec_q.specs.Rows.{components};
 ghost use Rattle.block_rows.specs.Stored.{nodes_of, table_of};
 ghost use Rattle.block_rows.specs.Tables.{diagonal_of};
 ghost use Rattle.sparse_cg.specs.Systems.{FitAt, IsShift, divisors_of, system_of, target_of};
-ghost use Rattle.sparse_cg.specs.Calls.Lists.{ArePositive, AreShort, IsGreatest, size_of, target_number};
+ghost use Rattle.sparse_cg.specs.Calls.Lists.{ArePositive, AreShort, IsGreatest};
 ghost use Rattle.sparse_cg.specs.Calls.States.{IsTask, system_in};
 
+use crate::numbers::kept;
 use crate::state::Task;
 use block_rows::Rows;
 use num_q::Q;
@@ -47,24 +47,26 @@ fn greatest_size(slopes: &[i128]) -> u128
     ensures small { result < 2 ^ 100 }
 {
     let mut most = 0;
-    for slope in slopes {
-        most = size_of(*slope).max(most);
+    for i in 0..slopes.len() {
+        most = size_of(slope_at(slopes, i)).max(most);
     }
     most
 }
 
-fn size_of(slope: i128) -> u128
-    ensures value { result ≡ size_of slope }
+fn size_of(slope: Q<0, 100>) -> u128
+    ensures value { result ≡ unsigned_abs slope.raw }
     ensures small { result < 2 ^ 100 }
 {
-    cut_slope(slope).raw().unsigned_abs()
+    slope.raw().unsigned_abs()
 }
 
-fn cut_slope(slope: i128) -> Q<0, 100>
-    ensures { result.raw ≡ cut_of 100 slope }
+// The slope at a place of a list, cut.
+fn slope_at(slopes: &[i128], i: usize) -> Q<0, 100>
+    requires { i < length slopes.now }
+    ensures { result.raw ≡ cut_of 100 (slice_index_or slopes.now i (pos 0)) }
 {
     let most = (1i128 << 100) - 1;
-    Q::of_raw(slope.clamp(-most, most))
+    Q::of_raw(slopes[i].clamp(-most, most))
 }
 
 // The least shift for a greatest size.
@@ -90,18 +92,23 @@ fn write_target(out: &mut [i64], slopes: &[i128], shift: u32)
     ensures short { AreShort out.new }
 {
     for i in 0..out.len() {
-        out[i] = target_number(slopes[i], shift);
+        out[i] = kept(target_number(slope_at(slopes, i), shift));
     }
 }
 
-fn target_number(slope: i128, shift: u32) -> i64
+fn target_number(slope: Q<0, 100>, shift: u32) -> Q<0, 44>
     requires shift { shift ≤ 60 }
-    requires fit { unsigned_abs (cut_of 100 slope) < 2 ^ (40 + shift) }
-    ensures value { result ≡ target_number shift slope }
-    ensures short { unsigned_abs result < 2 ^ 44 }
+    requires fit { unsigned_abs slope.raw < 2 ^ (40 + shift) }
+    ensures { result.raw ≡ floor_of (neg_ℤ slope.raw) (pos (2 ^ shift)) }
 {
-    let number = cut_slope(slope).neg().raw() >> shift;
-    number as i64
+    shifted(slope.neg(), shift).narrowed_into()
+}
+
+fn shifted(number: Q<0, 100>, shift: u32) -> Q<0, 101>
+    requires { shift ≤ 60 }
+    ensures { result.raw ≡ floor_of number.raw (pos (2 ^ shift)) }
+{
+    Q::of_raw(number.raw() >> shift)
 }
 
 fn write_divisors(out: &mut [i64], rows: &Rows)
@@ -110,27 +117,40 @@ fn write_divisors(out: &mut [i64], rows: &Rows)
     ensures positive { ArePositive out.new }
 {
     for node in 0..rows.nodes() {
-        let first = 3 * node as usize;
         let divisors = divisors_at(rows, node);
-        out[first] = divisors.x;
-        out[first + 1] = divisors.y;
-        out[first + 2] = divisors.z;
+        write_three(out, 3 * node as usize, divisors);
     }
+}
+
+// Writes three numbers from a place on.
+fn write_three(out: &mut [i64], first: usize, v: V3)
+    requires room { first + 2 < length out.old }
+    ensures { out.new ≡ slice_set (slice_set (slice_set out.old first v.x) (first + 1) v.y)
+        (first + 2) v.z }
+{
+    out[first] = v.x;
+    out[first + 1] = v.y;
+    out[first + 2] = v.z;
 }
 
 // The diagonal entries of a node, where they are at least 1.
 fn divisors_at(rows: &Rows, node: u32) -> V3
     requires { node < nodes_of rows.now }
-    ensures value { components result ≡ map (int_max (pos 1))
+    ensures { components result ≡ map (int_max (pos 1))
         (components (diagonal_of (table_of rows.now node node))) }
-    ensures x { pos 0 <ℤ result.x }
-    ensures y { pos 0 <ℤ result.y }
-    ensures z { pos 0 <ℤ result.z }
 {
     let diagonal = rows.diagonal(node);
     V3 {
-        x: diagonal.x.max(1),
-        y: diagonal.y.max(1),
-        z: diagonal.z.max(1),
+        x: at_least_one(diagonal.x),
+        y: at_least_one(diagonal.y),
+        z: at_least_one(diagonal.z),
     }
+}
+
+fn at_least_one(entry: i64) -> i64
+    requires { unsigned_abs entry < 2 ^ 62 }
+    ensures value { result ≡ int_max (pos 1) entry }
+    ensures small { unsigned_abs result < 2 ^ 62 }
+{
+    if entry < 1 { 1 } else { entry }
 }

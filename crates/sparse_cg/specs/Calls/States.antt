@@ -1,5 +1,8 @@
 -- What the work arrays hold: a system, and the numbers of a turn.
-use Rattle.std.specs.Prelude.{◌≡◌, ℕ, ◌≤◌, ◌*◌, List, length}
+use Rattle.std.specs.Prelude.{◌≡◌, ℕ, ◌≤◌, ◌*◌, List, length, All}
+use Rattle.space3.specs.declared.vectors.V3.{V3}
+use Rattle.space3.specs.declared.ways.TheConstants.{DIRECTION_LIMIT}
+use Rattle.space3.specs.Vectors.{Within}
 use Rattle.block_rows.specs.Stored.{Entry, nodes_of, table_of}
 use Rattle.block_rows.specs.Tables.{IsVector}
 use Rattle.sparse_cg.specs.declared.state.State.{State}
@@ -43,3 +46,11 @@ pub record IsState (nodes : ℕ) (state : State) : Type 0 where
   pub p : IsVector nodes state.p.items
   pub scratch : length state.scratch.items ≡ 3 * nodes
   pub product : length state.product.items ≡ 3 * nodes
+
+-- work arrays beside a direction
+pub record IsWork (dir : List V3) (task : Task) (state : State) : Type 0 where
+  pub few : length dir ≤ 16384
+  pub short : All (Within DIRECTION_LIMIT) dir
+  pub target : length task.target.items ≡ 3 * length dir
+  pub divisors : length task.divisors.items ≡ 3 * length dir
+  pub room : HasRoom (length dir) state
