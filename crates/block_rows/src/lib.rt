@@ -6,10 +6,12 @@
 mod block;
 mod cells;
 mod kept;
+mod laws;
 mod row;
 mod rows;
 mod sums;
 mod wide;
 
+pub use laws::products_of_two_nodes;
 pub use rows::Rows;
 pub use sums::Sums;

@@ -1,5 +1,5 @@
 -- Lists of a product's numbers with fewer bits, as the definitions have them.
-use Rattle.std.proofs.Common.{◌≡◌, ◌∙◌, ℕ, ◌+◌, ◌^◌, ℤ, pos, ◌-ℤ◌, List, [], ◌∷◌, map, refl, ap}
+use Rattle.std.proofs.Common.{◌≡◌, ℕ, ◌+◌, ◌^◌, ℤ, pos, ◌-ℤ◌, List, [], ◌∷◌, map, refl, ap}
 use Rattle.num_q.specs.Rounding.{cut_of, floor_of}
 use Rattle.block_rows.specs.Tables.{product}
 use Rattle.sparse_cg.specs.Systems.{System, apply, combined}

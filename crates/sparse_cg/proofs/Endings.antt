@@ -1,6 +1,6 @@
 -- The search turn by turn is that for a list of turns, and finds one direction at most.
-use Rattle.std.proofs.Common.{◌≡◌, ◌∙◌, ℕ, zero, suc, ◌+◌, ◌<◌, ◌≤◌, ℤ, pos, ◌<ℤ◌, List, [], ◌∷◌, ◌++◌, length, inl, inr, refl, sym, ap, subst, arith}
-use Rattle.std.specs.Prelude.{All, ◌⊎◌}
+use Rattle.std.proofs.Common.{◌≡◌, ◌∙◌, ℕ, zero, suc, ◌<◌, pos, ◌<ℤ◌, List, [], ◌∷◌, ◌++◌, length, inl, inr, refl, sym, ap, subst, arith}
+use Rattle.std.specs.Prelude.{All}
 use Rattle.std.proofs.lemmas.List.Elements.{All-cons, All-head, All-nil, All-tail}
 use Rattle.list_laws.specs.Chains.{Follow}
 use Rattle.space3.specs.declared.vectors.V3.{V3}
@@ -49,7 +49,7 @@ module _ (system : System) (direction : List V3) where
   along (suc turns) n (next ∷ before) last few follow far close is =
       let turn = follow.0 in
       ends_later turns n turn.bends turn.remains (subst (λ (m : Numbers). ¬ IsClose system m) turn.is (All-head (λ t. ¬ IsClose system t) next before far))
-          (subst (λ (m : Numbers). Ends system turns m direction) turn.is (along turns next before last (omega arith) follow.1 (All-tail (λ t. ¬ IsClose system t) next before far) close is))
+      (subst (λ (m : Numbers). Ends system turns m direction) turn.is (along turns next before last (omega arith) follow.1 (All-tail (λ t. ¬ IsClose system t) next before far) close is))
 
   -- what such a list is from some numbers on
   pub record IsEndFrom (count : ℕ) (n : Numbers) : Type 0 where
@@ -65,17 +65,25 @@ module _ (system : System) (direction : List V3) where
   unfolding Ends
   ended zero n h = absurd h
   ended (suc count) n h = elim h.2 [
-      inl at_end ↦ record {
-        before = []; last = turned system n; few = omega arith;
-        turns = (record { bends = h.0; remains = h.1; is = refl }, tt);
-        far = All-nil (λ t. ¬ IsClose system t); close = at_end.0; is = at_end.1;
-      }
+    | inl at_end ↦ record {
+      before = [];
+      last = turned system n;
+      few = omega arith;
+      turns = (record { bends = h.0; remains = h.1; is = refl }, tt);
+      far = All-nil (λ t. ¬ IsClose system t);
+      close = at_end.0;
+      is = at_end.1;
+    }
     | inr further ↦ let rest = ended count (turned system n) further.1 in record {
-        before = turned system n ∷ rest.before; last = rest.last; few = omega (arith, rest.few);
-        turns = (record { bends = h.0; remains = h.1; is = refl }, rest.turns);
-        far = All-cons (λ t. ¬ IsClose system t) (turned system n) rest.before further.0 rest.far; close = rest.close; is = rest.is;
-      }
-    ]
+      before = turned system n ∷ rest.before;
+      last = rest.last;
+      few = omega (arith, rest.few);
+      turns = (record { bends = h.0; remains = h.1; is = refl }, rest.turns);
+      far = All-cons (λ t. ¬ IsClose system t) (turned system n) rest.before further.0 rest.far;
+      close = rest.close;
+      is = rest.is;
+    }
+  ]
 
   -- ---- the search of 200 turns
   pub end_from_search : Ends system 200 (start system) direction → IsEndOf system direction
@@ -91,6 +99,6 @@ pub one_end : (system : System) (count : ℕ) (n : Numbers) (d e : List V3) → 
 unfolding Ends
 one_end system zero n d e h k = absurd h
 one_end system (suc count) n d e h k = elim h.2 [
-    inl at_end ↦ at_end.1 ∙ sym (is_where system e count n at_end.0 k)
+  | inl at_end ↦ at_end.1 ∙ sym (is_where system e count n at_end.0 k)
   | inr further ↦ one_end system count (turned system n) d e further.1 (further_where system e count n further.0 k)
-  ]
+]

@@ -1,11 +1,11 @@
 -- Loops that write one element at a turn.
-use Rattle.std.proofs.Common.{◌≡◌, ◌∙◌, ℕ, zero, suc, ◌+◌, ◌<◌, ℤ, pos, List, [], ◌∷◌, ◌++◌, length, take, set, get_or, map, refl, sym, ap, subst, arith, unsigned_abs, ◌^◌, to_z, of_z}
+use Rattle.std.proofs.Common.{◌≡◌, ◌∙◌, ℕ, zero, suc, ◌+◌, ◌<◌, ℤ, pos, List, [], ◌∷◌, length, take, set, get_or, map, refl, sym, ap, subst, arith, unsigned_abs, ◌^◌, to_z, of_z}
 use Rattle.std.specs.Int.{w64}
 use Rattle.whole_laws.proofs.Order.{clean}
-use Rattle.std.specs.Prelude.{All, zip}
+use Rattle.std.specs.Prelude.{All}
 use Rattle.std.specs.List.{range_with_len}
 use Rattle.std.proofs.lemmas.List.{take_all, take_more_set}
-use Rattle.std.proofs.lemmas.List.FromFn.{fill_by_all, length-map-range_with_len}
+use Rattle.std.proofs.lemmas.List.FromFn.{fill_by_all}
 use Rattle.std.proofs.lemmas.List.{get_or-map, length-map}
 use Rattle.list_laws.proofs.Pushes.{all_more, counted_more}
 use Rattle.sparse_cg.specs.Systems.{combined}

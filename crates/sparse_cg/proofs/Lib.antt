@@ -4,3 +4,4 @@ pub mod Applied
 pub mod Endings
 pub mod SearchSteps
 pub mod Shifts
+pub mod OneDirection

@@ -1,12 +1,11 @@
 -- Powers of two for a shift, and numbers shifted by it.
-use Rattle.std.proofs.Common.{◌≡◌, ◌∙◌, ℕ, ◌+◌, ◌*◌, ◌%◌, ◌≤◌, ◌<◌, ◌^◌, ℤ, pos, ◌<ℤ◌, unsigned_abs, sym, ap, arith, to_z, subst}
-use Rattle.std.specs.Int.{w128, int_shr}
+use Rattle.std.proofs.Common.{◌≡◌, ◌∙◌, ℕ, ◌*◌, ◌%◌, ◌≤◌, ◌<◌, ◌^◌, ℤ, pos, ◌<ℤ◌, unsigned_abs, ap, arith, to_z}
+use Rattle.std.specs.Int.{w128}
 use Rattle.std.proofs.Math.Pow.{pow_mono}
 use Rattle.std.proofs.lemmas.Nat.{one_shl, pow_pos}
 use Rattle.std.proofs.lemmas.Int.{to_z_pos, ints}
-use Rattle.whole_laws.proofs.Floors.{floor_size, shr-is}
+use Rattle.whole_laws.proofs.Floors.{floor_size}
 use Rattle.num_q.specs.Rounding.{floor_of}
-use Rattle.num_q.proofs.Bounds.{back, back-is}
 
 pub power_is : (k : ℕ) → k ≤ 76 → to_z w128 (1 * 2 ^ k % 2 ^ 128) ≡ pos (2 ^ k)
 power_is k h =

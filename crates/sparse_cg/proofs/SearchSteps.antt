@@ -1,6 +1,5 @@
 -- What a turn of the search tells of all directions.
-use Rattle.std.proofs.Common.{◌≡◌, ◌∙◌, true, false, ℕ, suc, ℤ, pos, ◌<ℤ◌, ◌≤ℤ◌, List, sym, ap, subst, arith}
-use Rattle.std.proofs.lemmas.Int.{ints}
+use Rattle.std.proofs.Common.{◌≡◌, true, false, ℕ, suc, ℤ, pos, ◌<ℤ◌, List, sym, ap, subst}
 use Rattle.space3.specs.declared.vectors.V3.{V3}
 use Rattle.sparse_cg.specs.Directions.{direction_of}
 use Rattle.sparse_cg.specs.Systems.{System}
@@ -25,7 +24,7 @@ module _ (system : System) (left rest : ℕ) (n : Numbers) (more : left ≡ suc 
     pub at_end : IsClose system after → Ends system left n (direction_of system.nodes after.x)
     at_end close =
         subst (λ k. Ends system k n (direction_of system.nodes after.x)) (sym more)
-            (ends_here system (direction_of system.nodes after.x) rest n bends remains (subst (IsClose system) is close) (ap (λ (m : Numbers). direction_of system.nodes m.x) is))
+        (ends_here system (direction_of system.nodes after.x) rest n bends remains (subst (IsClose system) is close) (ap (λ (m : Numbers). direction_of system.nodes m.x) is))
 
     module _ (far : ¬ IsClose system after) where
       far_on : ¬ IsClose system (turned system n)

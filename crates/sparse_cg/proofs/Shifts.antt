@@ -1,5 +1,5 @@
 -- The shift of slopes, and the sizes that it leaves.
-use Rattle.std.proofs.Common.{◌≡◌, ◌∙◌, ℕ, ◌+◌, ◌*◌, ◌≤◌, ◌<◌, ◌^◌, ℤ, pos, negsuc, neg_ℤ, ◌*ℤ◌, ◌≤ℤ◌, ◌<ℤ◌, unsigned_abs, max, List, length, map, take, get_or, arith, subst, sym}
+use Rattle.std.proofs.Common.{◌≡◌, ℕ, ◌+◌, ◌*◌, ◌≤◌, ◌<◌, ◌^◌, ℤ, pos, negsuc, neg_ℤ, ◌*ℤ◌, ◌≤ℤ◌, ◌<ℤ◌, unsigned_abs, max, List, length, map, take, get_or, arith, subst, sym}
 use Rattle.std.specs.Prelude.{All}
 use Rattle.std.proofs.lemmas.Int.{clamps, ints}
 use Rattle.std.specs.Int.{int_max}
@@ -7,8 +7,8 @@ use Rattle.std.proofs.lemmas.Nat.{pow-add, pow_pos}
 use Rattle.std.proofs.lemmas.List.Elements.{All-map, All-more, All-weaker}
 use Rattle.list_laws.proofs.Elements.{All-take_at, All-take_less}
 use Rattle.whole_laws.proofs.Floors.{floor_below, floor_least}
-use Rattle.num_q.specs.Rounding.{cut_of, floor_of}
-use Rattle.sparse_cg.specs.Systems.{FitAt, IsShift}
+use Rattle.num_q.specs.Rounding.{floor_of}
+use Rattle.sparse_cg.specs.Systems.{IsShift}
 use Rattle.sparse_cg.specs.Calls.Lists.{IsGreatest, size_of}
 
 -- one slope more

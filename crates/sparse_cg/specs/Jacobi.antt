@@ -1,5 +1,5 @@
 -- Jacobi's direction: each component of the gradient over the matrix's diagonal entry.
-use Rattle.std.specs.Prelude.{ℕ, ◌*◌, ◌+◌, ℤ, pos, neg_ℤ, List, map, flat_map, slice_index_or}
+use Rattle.std.specs.Prelude.{ℕ, ℤ, pos, neg_ℤ, List, map}
 use Rattle.std.specs.List.{range_with_len}
 use Rattle.std.specs.Int.{int_max}
 use Rattle.num_q.specs.Rounding.{round_of, cut_of}

@@ -1,5 +1,5 @@
 -- The system of equations of a Newton direction, scaled so that its numbers are short.
-use Rattle.std.specs.Prelude.{ℕ, ◌<◌, ◌+◌, ◌*◌, ◌^◌, ℤ, pos, neg_ℤ, ◌*ℤ◌, List, map, flat_map, zip, All, unsigned_abs}
+use Rattle.std.specs.Prelude.{ℕ, ◌<◌, ◌+◌, ◌^◌, ℤ, pos, neg_ℤ, ◌*ℤ◌, List, map, flat_map, zip, All, unsigned_abs}
 use Rattle.std.specs.List.{range_with_len}
 use Rattle.std.specs.Int.{int_max}
 use Rattle.num_q.specs.Rounding.{floor_of, cut_of}

@@ -1,5 +1,5 @@
 -- Turns of conjugate gradients in whole numbers, where the residual is made anew from the solution so far.
-use Rattle.std.specs.Prelude.{◌≡◌, ℕ, ◌*◌, ◌^◌, ◌≤◌, ℤ, pos, ◌+ℤ◌, ◌-ℤ◌, ◌*ℤ◌, ◌<ℤ◌, List, map, zip, sum, unsigned_abs}
+use Rattle.std.specs.Prelude.{◌≡◌, ◌*◌, ◌^◌, ◌≤◌, ℤ, pos, ◌+ℤ◌, ◌-ℤ◌, ◌*ℤ◌, ◌<ℤ◌, List, map, sum, unsigned_abs}
 use Rattle.std.specs.Prelude.{replicate}
 use Rattle.num_q.specs.Rounding.{floor_of, cut_of}
 use Rattle.list_laws.specs.Sums.{total}

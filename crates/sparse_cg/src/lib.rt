@@ -4,7 +4,6 @@
 
 mod directions;
 mod lists;
-
 mod numbers;
 mod scale;
 mod search;

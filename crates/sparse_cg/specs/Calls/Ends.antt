@@ -1,5 +1,5 @@
 -- Whether turns from some numbers on end in a direction, turn by turn.
-use Rattle.std.specs.Prelude.{◌≡◌, ℕ, zero, suc, ℤ, pos, ◌<ℤ◌, List, ◌⊎◌}
+use Rattle.std.specs.Prelude.{◌≡◌, ℕ, zero, suc, pos, ◌<ℤ◌, List, ◌⊎◌}
 use Rattle.space3.specs.declared.vectors.V3.{V3}
 use Rattle.sparse_cg.specs.Directions.{direction_of}
 use Rattle.sparse_cg.specs.Systems.{System}

@@ -1,12 +1,9 @@
-use Rattle.std.proofs.Common.{◌∙◌, ap, sym, map, arith}
-use Rattle.std.specs.List.{range_with_len}
+use Rattle.std.proofs.Common.{arith}
 use Rattle.space3.specs.declared.ways.TheConstants.{DIRECTION_LIMIT}
 use Rattle.space3.specs.Vectors.{Within}
 use Rattle.block_rows.specs.Stored.{table_of}
-use Rattle.block_rows.specs.Tables.{three_at}
-use Rattle.sparse_cg.specs.Directions.{rounded}
 use Rattle.sparse_cg.specs.Jacobi.{jacobi_at}
-use Rattle.sparse_cg.proofs.Fronts.{front_each, front_more, front_value}
+use Rattle.sparse_cg.proofs.Fronts.{front_each, front_more}
 use Rattle.sparse_cg.proofs.directions.write_jacobi.Goals as goal
 
 pub loop-node-preserved : goal.loop-node-preserved

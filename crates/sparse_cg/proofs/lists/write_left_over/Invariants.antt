@@ -1,7 +1,5 @@
 use Rattle.std.proofs.Common.{◌^◌, ◌<◌, pos, unsigned_abs, get_or}
-use Rattle.sparse_cg.specs.Systems.{quotient_of}
-use Rattle.sparse_cg.specs.Turns.{moved}
-use Rattle.sparse_cg.specs.Calls.Lists.{left_over, shortened}
+use Rattle.sparse_cg.specs.Calls.Lists.{left_over}
 use Rattle.sparse_cg.specs.Calls.Fronts.{IsFront}
 use Rattle.sparse_cg.proofs.lists.write_left_over.Given as goal
 

@@ -1,8 +1,6 @@
-use Rattle.std.proofs.Common.{ℕ, ◌≡◌, ◌∙◌, ◌^◌, ◌<◌, ℤ, pos, ◌*ℤ◌, unsigned_abs, get_or, ap, arith}
-use Rattle.num_q.specs.Rounding.{cut_of, floor_of}
-use Rattle.sparse_cg.specs.Systems.{quotient_of}
-use Rattle.sparse_cg.specs.Calls.Lists.{left_over, shortened}
-use Rattle.sparse_cg.proofs.Fronts.{combined_counted, front_kept, front_value, map_counted}
+use Rattle.std.proofs.Common.{ℕ, ◌∙◌, ◌^◌, ◌<◌, ℤ, pos, unsigned_abs, get_or, ap, arith}
+use Rattle.sparse_cg.specs.Calls.Lists.{shortened}
+use Rattle.sparse_cg.proofs.Fronts.{front_kept, front_value, map_counted}
 use Rattle.sparse_cg.proofs.lists.write_shortened.Goals as goal
 
 pub loop-i-preserved : goal.loop-i-preserved

@@ -1,4 +1,4 @@
-use Rattle.std.proofs.Common.{◌≡◌, ◌*◌, ◌≤◌, pos, ◌<ℤ◌, length, map, take}
+use Rattle.std.proofs.Common.{◌≡◌, ◌*◌, pos, ◌<ℤ◌, length, map, take}
 use Rattle.std.specs.Prelude.{All}
 use Rattle.std.specs.Int.{int_max}
 use Rattle.std.specs.List.{flat_map, range_with_len}

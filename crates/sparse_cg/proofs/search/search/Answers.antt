@@ -1,6 +1,4 @@
-use Rattle.std.proofs.Common.{◌≡◌, ◌∙◌, ℕ, suc, ◌-◌, ◌+◌, ◌*◌, ◌≤◌, ℤ, pos, ◌<ℤ◌, List, map, unsigned_abs, refl, sym, ap, subst, arith}
-use Rattle.std.specs.Prelude.{sum}
-use Rattle.space3.specs.declared.vectors.V3.{V3}
+use Rattle.std.proofs.Common.{◌≡◌, ◌∙◌, ℕ, suc, ◌-◌, ◌+◌, refl, ap, subst, arith}
 use Rattle.sparse_cg.specs.Turns.{IsClose, Numbers, turned}
 use Rattle.sparse_cg.specs.Calls.Ends.{Ends}
 use Rattle.sparse_cg.specs.Calls.States.{numbers_in, system_in}
@@ -11,12 +9,12 @@ use Rattle.sparse_cg.proofs.search.search.Goals as goal
 pub returns-then-not-is_positive-clause-none : goal.returns-then-not-is_positive-clause-none
 returns-then-not-is_positive-clause-none c false direction h =
     straight (system_in c.args.rows.now c.args.task.now) (200 - c.loop.counter) (199 - c.loop.counter) (numbers_in c.loop.state) (omega arith)
-        c.curvature-bend.result.raw c.curvature-bend.ensures.value (λ p. differ (c.if-not-is_positive.ensures.1 p)) direction (c.loop.invariant.after direction h)
+    c.curvature-bend.result.raw c.curvature-bend.ensures.value (λ p. differ (c.if-not-is_positive.ensures.1 p)) direction (c.loop.invariant.after direction h)
 
 pub returns-then-not-is_positive-2-clause-none : goal.returns-then-not-is_positive-2-clause-none
 returns-then-not-is_positive-2-clause-none c false direction h =
     nothing_left (system_in c.args.rows.now c.args.task.now) (200 - c.loop.counter) (199 - c.loop.counter) (numbers_in c.loop.state) (omega arith)
-        c.curvature-bend.new.self.rho.raw (ap (λ (n : Numbers). n.rho) c.curvature-bend.ensures.same) (λ p. differ (c.if-not-is_positive-2.ensures.1 p)) direction (c.loop.invariant.after direction h)
+    c.curvature-bend.new.self.rho.raw (ap (λ (n : Numbers). n.rho) c.curvature-bend.ensures.same) (λ p. differ (c.if-not-is_positive-2.ensures.1 p)) direction (c.loop.invariant.after direction h)
 
 pub returns-then-is_close-clause-found : goal.returns-then-is_close-clause-found
 returns-then-is_close-clause-found c true =
@@ -49,4 +47,4 @@ pub returns-clause-none : goal.returns-clause-none
 returns-clause-none c false direction h =
     let over : 200 - c.loop.counter ≡ 0 = omega arith in
     none_left (system_in c.args.rows.now c.args.task.now) direction (numbers_in c.loop.state)
-        (subst (λ (k : ℕ). Ends (system_in c.args.rows.now c.args.task.now) k (numbers_in c.loop.state) direction) over (c.loop.invariant.after direction h))
+    (subst (λ (k : ℕ). Ends (system_in c.args.rows.now c.args.task.now) k (numbers_in c.loop.state) direction) over (c.loop.invariant.after direction h))

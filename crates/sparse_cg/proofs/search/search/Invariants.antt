@@ -1,4 +1,4 @@
-use Rattle.std.proofs.Common.{ℕ, ◌-◌, ◌≤◌, List}
+use Rattle.std.proofs.Common.{◌-◌, List}
 use Rattle.block_rows.specs.Stored.{nodes_of}
 use Rattle.space3.specs.declared.vectors.V3.{V3}
 use Rattle.sparse_cg.specs.Turns.{start}

@@ -1,12 +1,10 @@
-use Rattle.std.proofs.Common.{◌≡◌, ◌∙◌, ℕ, ℤ, List, length, map, ap, sym}
+use Rattle.std.proofs.Common.{◌∙◌, map, ap}
 use Rattle.std.proofs.lemmas.List.{with_items_is}
-use Rattle.block_rows.specs.Stored.{nodes_of, table_of}
 use Rattle.block_rows.specs.Tables.{product}
-use Rattle.sparse_cg.specs.Systems.{apply, combined, over_diagonal, quotient_of}
-use Rattle.sparse_cg.specs.Turns.{Numbers, curvature, dot, moved, ratio, residual}
-use Rattle.sparse_cg.specs.Calls.Lists.{left_over, shortened}
-use Rattle.sparse_cg.specs.Calls.States.{numbers_in, system_in}
-use Rattle.sparse_cg.proofs.Applied.{curvature_is, residual_is}
+use Rattle.sparse_cg.specs.Turns.{dot}
+use Rattle.sparse_cg.specs.Calls.Lists.{shortened}
+use Rattle.sparse_cg.specs.Calls.States.{system_in}
+use Rattle.sparse_cg.proofs.Applied.{curvature_is}
 use Rattle.sparse_cg.proofs.state.State.curvature.Goals as goal
 
 pub returns-clause-value : goal.returns-clause-value
