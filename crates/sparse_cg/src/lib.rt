@@ -3,6 +3,7 @@
 #![tactic(auto)]
 
 mod directions;
+mod laws;
 mod lists;
 mod numbers;
 mod scale;
@@ -12,5 +13,6 @@ mod state;
 mod turn;
 mod work;
 
+pub use laws::{directions_of_two_nodes, one_newton};
 pub use solve::{jacobi, newton};
 pub use work::Work;
