@@ -1,0 +1,4 @@
+pub mod Calls
+pub mod Example
+pub mod Stored
+pub mod Tables

@@ -1,0 +1,85 @@
+//! Sums of blocks at pairs of nodes, added in any order.
+ghost use Rattle.std.specs.Prelude.{◌≡◌, ◌^◌, ◌≤◌, ◌<◌, IfOk, OnErr, length, [], ◌+◌, replicate};
+ghost use Rattle.vec_q.specs.Rows.{matrix_of};
+ghost use Rattle.vec_q.specs.Widths.{AreBelow};
+ghost use Rattle.block_rows.specs.Stored.{nodes_of, table_of};
+ghost use Rattle.block_rows.specs.Tables.{cut_table, with_block, zeros};
+
+use crate::cells::WideRow;
+use crate::rows::Rows;
+use crate::wide::wide_block;
+use std::alloc::{AllocError, Global};
+use std::marker::Model;
+
+/// Sums of blocks, with a row and a column for each node.
+#[derive(Drop)]
+pub struct Sums {
+    rows: Vec<WideRow>,
+    added: u64,
+}
+
+impl Model for Sums {
+    ghost use Rattle.block_rows.specs.Stored.{StoredSums};
+
+    ghost Value = { StoredSums };
+
+    ghost use Rattle.block_rows.specs.Calls.Matrices.{AreSums};
+
+    ghost view = { λ s. record { rows = s.rows.items; added = s.added } };
+
+    ghost invariant = { λ s. AreSums s.rows.items s.added };
+}
+
+impl Sums {
+    /// Sums to which nothing was added, for so many nodes, at most 16384.
+    pub fn open(alloc: Global, nodes: u32) -> Result<Self, AllocError>
+        requires { nodes ≤ 16384 }
+        ensures nodes { IfOk result (λ made. nodes_of made.rows ≡ nodes) }
+        ensures table { IfOk result (λ made. table_of made.rows ≡ zeros) }
+        ensures none { IfOk result (λ made. made.added ≡ 0) }
+    {
+        let rows = empty_rows(alloc, nodes)?;
+        Ok(Sums { rows, added: 0 })
+    }
+
+    /// Adds a block, given by its rows, in the row of node `i` and the column of node `j`. Its entries are below 2^86
+    /// in absolute value, and fewer than 2^34 blocks were added before. Where memory is wanting, the sums stay.
+    pub fn add(&mut self, i: u32, j: u32, block: &[[i128; 3]; 3]) -> Result<(), AllocError>
+        requires row { i < nodes_of self.old.rows }
+        requires column { j < nodes_of self.old.rows }
+        requires small { AreBelow 86 (matrix_of block.now) }
+        requires room { self.old.added < 2 ^ 34 }
+        ensures nodes { IfOk result (λ _. nodes_of self.new.rows ≡ nodes_of self.old.rows) }
+        ensures table { IfOk result (λ _. table_of self.new.rows ≡
+            with_block i j (matrix_of block.now) (table_of self.old.rows)) }
+        ensures count { IfOk result (λ _. self.new.added ≡ self.old.added + 1) }
+        ensures kept { OnErr result (self.new ≡ self.old) }
+    {
+        let row = &mut self.rows[i as usize];
+        row.add(j, wide_block(block))?;
+        self.added += 1;
+        Ok(())
+    }
+
+    /// The matrix of these sums: each entry cut to 62 bits, and rows and columns of fixed nodes those of the unit
+    /// matrix.
+    pub fn finish(&self, alloc: Global, fixed: &[bool]) -> Result<Rows, AllocError>
+        requires { length fixed.now ≡ nodes_of self.now.rows }
+        ensures nodes { IfOk result (λ made. nodes_of made ≡ nodes_of self.now.rows) }
+        ensures table { IfOk result (λ made.
+            table_of made ≡ cut_table fixed.now (table_of self.now.rows)) }
+    {
+        Rows::of_sums(alloc, &self.rows, fixed)
+    }
+}
+
+// Rows without a block.
+fn empty_rows(alloc: Global, nodes: u32) -> Result<Vec<WideRow>, AllocError>
+    ensures { IfOk result (λ made. made.items ≡ replicate nodes []) }
+{
+    let mut made = Vec::with_capacity(alloc, nodes as usize)?;
+    for _ in 0..nodes {
+        made.push(WideRow::new(alloc))?;
+    }
+    Ok(made)
+}

@@ -1,0 +1,18 @@
+//! Directions from a sparse matrix and a gradient, in whole numbers: Newton's, by conjugate
+//! gradients of at most 200 turns, where these end; and Jacobi's, which there always is.
+#![tactic(auto)]
+
+mod directions;
+mod laws;
+mod lists;
+mod numbers;
+mod scale;
+mod search;
+mod solve;
+mod state;
+mod turn;
+mod work;
+
+pub use laws::{directions_of_two_nodes, one_newton};
+pub use solve::{jacobi, newton};
+pub use work::Work;
