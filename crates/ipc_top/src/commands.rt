@@ -18,7 +18,8 @@ use space3::V3;
 use std::alloc::Global;
 use surface_mesh::{Material, Numbers, PartList};
 
-/// Checks the mesh of a file, read with so many digits: says its size and writes its frame 0 under the name `out`, or says why it is refused.
+/// Checks the mesh of a file, read with so many digits: says its size and writes its frame 0 under the name `out`, or
+/// says why it is refused.
 pub fn check<S: Shelf, C: Sink>(
     alloc: Global,
     shelf: &mut S,
@@ -27,7 +28,8 @@ pub fn check<S: Shelf, C: Sink>(
     mesh: &str,
     out: &str,
 ) -> Result<u8, End>
-    ensures obeys { Obeys (CommandCallsFor (Some (commands.Check digits.count mesh.now out.now))) result
+    ensures obeys { let command = commands.Check digits.count mesh.now out.now in
+        Obeys (CommandCallsFor (Some command)) result
         (world (S.state shelf.old) (C.state console.old))
         (world (S.state shelf.new) (C.state console.new)) }
     ensures too_long { status_of result ≡ 10 → (S.state shelf.new).taken ≡ MESH_LIMIT + 1 }

@@ -99,6 +99,7 @@ fn the_first_fault_is_named(rt: HostRuntime) -> Result<(), Fail> {
 #[test]
 fn a_text_cut_short_has_its_fault_at_its_end(rt: HostRuntime) {
     for end in 0..136usize {
+        assert!(rt; end <= TEXT.len());
         let line = match fault_of(rt.alloc(), &TEXT[..end]) {
             Some(ReadMshErr::Text(fault)) => fault.line,
             Some(ReadMshErr::Memory) => 0,
@@ -113,6 +114,7 @@ fn a_text_cut_short_has_its_fault_at_its_end(rt: HostRuntime) {
         (104, 13, Truncated),
         (133, 14, BadCount),
     ] {
+        assert!(rt; end <= TEXT.len());
         assert_eq!(rt; fault_of(rt.alloc(), &TEXT[..end]), fault(line, kind));
     }
 }

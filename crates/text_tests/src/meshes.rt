@@ -13,12 +13,19 @@ pub const TEXT: &[u8] =
 
 /// A mesh with names of groups, a point, a triangle with a node twice, and data of nodes that has words of other sections
 /// in it. Lines end with CR LF, and two elements have one number.
-const GROUPS: &[u8] =
-    b"words\r\n$MeshFormat\r\n2.2 0 8\r\n$EndMeshFormat\r\n\r\n$PhysicalNames\r\n1\r\n3 5 \"body $Nodes\"\r\n$EndPhysicalNames\r\n$Nodes\r\n4\r\n10 0 0 0\r\n20 .0999999999999999 0 0\r\n7 0 100.0e-3 0\r\n3000000 0 -0 1e-1\r\n$EndNodes\r\n$Elements\r\n4\r\n1 15 2 0 1 10\r\n2 2 2 0 1 10 20 20\r\n9 4 3 5 1 -7 10 20 7 3000000\r\n9 4 0 10 20 7 3000000\r\n$EndElements more\r\n$NodeData\r\n$Nodes\r\n$EndNodes\r\n$EndNodeData";
+const GROUPS: &[u8] = b"\
+words\r\n$MeshFormat\r\n2.2 0 8\r\n$EndMeshFormat\r\n\r\n$PhysicalNames\r\n1\r\n\
+3 5 \"body $Nodes\"\r\n$EndPhysicalNames\r\n$Nodes\r\n4\r\n10 0 0 0\r\n\
+20 .0999999999999999 0 0\r\n7 0 100.0e-3 0\r\n3000000 0 -0 1e-1\r\n$EndNodes\r\n\
+$Elements\r\n4\r\n1 15 2 0 1 10\r\n2 2 2 0 1 10 20 20\r\n\
+9 4 3 5 1 -7 10 20 7 3000000\r\n9 4 0 10 20 7 3000000\r\n$EndElements more\r\n\
+$NodeData\r\n$Nodes\r\n$EndNodes\r\n$EndNodeData";
 
 /// Its frame with four digits.
-const GROUPS_FRAME: &[u8] =
-    b"$MeshFormat\n2.2 0 8\n$EndMeshFormat\n$Nodes\n4\n10 0 0 0\n20 0.1 0 0\n7 0 0.1 0\n3000000 0 0 0.1\n$EndNodes\n$Elements\n2\n9 4 3 5 1 -7 10 20 7 3000000\n9 4 0 10 20 7 3000000\n$EndElements\n";
+const GROUPS_FRAME: &[u8] = b"\
+$MeshFormat\n2.2 0 8\n$EndMeshFormat\n$Nodes\n4\n10 0 0 0\n20 0.1 0 0\n\
+7 0 0.1 0\n3000000 0 0 0.1\n$EndNodes\n$Elements\n2\n\
+9 4 3 5 1 -7 10 20 7 3000000\n9 4 0 10 20 7 3000000\n$EndElements\n";
 
 /// The frame of the mesh of a text, with the nodes at the mesh's own places.
 fn frame_of(alloc: Global, text: &[u8], digits: u8, snap: Snap) -> Result<Vec<u8>, ReadMshErr>
