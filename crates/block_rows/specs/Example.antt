@@ -1,5 +1,5 @@
 -- A table of two nodes, made of four blocks.
-use Rattle.std.specs.Prelude.{pos, negsuc, neg_ℤ, List, []}
+use Rattle.std.specs.Prelude.{pos, neg_ℤ}
 use Rattle.space3.specs.Vectors.{vector}
 use Rattle.vec_q.specs.Matrices.{M3, columns, transposed}
 use Rattle.block_rows.specs.Tables.{Table, with_block, zeros}

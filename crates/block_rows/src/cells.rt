@@ -80,7 +80,8 @@ impl WideRow {
         requires ascending { IsAscending self.old }
         requires small { IsSmall (2 ^ 120) self.old }
         requires block { AreWithin (2 ^ 120) (wide_matrix block) }
-        ensures done { IfOk result (λ _. self.new ≡ with_entry column (wide_matrix block) self.old) }
+        ensures done { IfOk result (λ _.
+            self.new ≡ with_entry column (wide_matrix block) self.old) }
         ensures kept { OnErr result (self.new ≡ self.old) }
     {
         match place_in(&self.cells, column) {

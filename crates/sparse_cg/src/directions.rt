@@ -1,22 +1,18 @@
 //! Directions, one vector for each node.
 ghost use Rattle.std.specs.Prelude.{◌≡◌, ◌+◌, ◌*◌, ◌^◌, ◌≤◌, ◌<◌, pos, ◌<ℤ◌, ◌*ℤ◌, ◌+ℤ◌, map, length, slice_index_or, All};
-ghost use Rattle.std.specs.Int.{int_max};
 ghost use Rattle.num_q.specs.Rounding.{round_of};
 ghost use Rattle.space3.specs.Vectors.{AtMost, Within};
 ghost use Rattle.space3.specs.declared.ways.TheConstants.{DIRECTION_LIMIT};
-ghost use Rattle.vec_q.specs.Raws.{raws};
-ghost use Rattle.vec_q.specs.Widths.{IsBelow};
 ghost use Rattle.block_rows.specs.Stored.{nodes_of, table_of};
 ghost use Rattle.block_rows.specs.Tables.{three_at};
 ghost use Rattle.sparse_cg.specs.Directions.{direction_of, rounded};
 ghost use Rattle.sparse_cg.specs.Jacobi.{jacobi, jacobi_at, jacobi_component};
 ghost use Rattle.sparse_cg.specs.Calls.Lists.{AreShort};
 
-use crate::numbers::number_at;
+use crate::numbers::{at_least_one, entries, number_at};
 use block_rows::Rows;
 use num_q::Q;
 use space3::V3;
-use vec_q::VecQ;
 
 // Writes a solution as a direction.
 pub(crate) fn write_direction(out: &mut [V3], x: &[i64])
@@ -86,25 +82,14 @@ fn jacobi_at(rows: &Rows, slopes: &[i128], node: u32) -> V3
     let diagonal = entries(rows.diagonal(node));
     let first = 3 * node as usize;
     V3 {
-        x: component(diagonal.x, slope_at(slopes, first)),
-        y: component(diagonal.y, slope_at(slopes, first + 1)),
-        z: component(diagonal.z, slope_at(slopes, first + 2)),
+        x: component(diagonal.x, long_slope_at(slopes, first)),
+        y: component(diagonal.y, long_slope_at(slopes, first + 1)),
+        z: component(diagonal.z, long_slope_at(slopes, first + 2)),
     }
 }
 
-fn entries(v: V3) -> VecQ<0, 62>
-    requires { IsBelow 62 v }
-    ensures { raws result ≡ v }
-{
-    VecQ {
-        x: Q::of_raw(v.x as i128),
-        y: Q::of_raw(v.y as i128),
-        z: Q::of_raw(v.z as i128),
-    }
-}
-
-// The slope at a place of a list.
-fn slope_at(slopes: &[i128], i: usize) -> Q<0, 125>
+// The whole slope at a place of a list.
+fn long_slope_at(slopes: &[i128], i: usize) -> Q<0, 125>
     requires there { i < length slopes.now }
     requires small { All (AtMost (2 ^ 124)) slopes.now }
     ensures value { result.raw ≡ slice_index_or slopes.now i (pos 0) }
@@ -121,13 +106,6 @@ fn component(diagonal: Q<0, 62>, slope: Q<0, 125>) -> i64
     let exact = rounded_quotient(slope.neg(), at_least_one(diagonal));
     let cut: Q<0, 21> = exact.cut_into();
     cut.raw() as i64
-}
-
-fn at_least_one(entry: Q<0, 62>) -> Q<0, 62>
-    ensures value { result.raw ≡ int_max (pos 1) entry.raw }
-    ensures positive { pos 0 <ℤ result.raw }
-{
-    Q::of_raw(entry.raw().max(1))
 }
 
 // The nearest whole number to a quotient.

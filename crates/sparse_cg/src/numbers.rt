@@ -1,11 +1,16 @@
 //! The numbers of a turn, one by one.
 ghost use Rattle.std.specs.Prelude.{◌≡◌, ◌↔◌, IsTrue, ◌+◌, ◌^◌, ◌≤◌, ◌<◌, pos, ◌*ℤ◌, ◌<ℤ◌, slice_index_or, length, All, unsigned_abs};
+ghost use Rattle.std.specs.Int.{int_max};
 ghost use Rattle.num_q.specs.Rounding.{cut_of, floor_of};
 ghost use Rattle.space3.specs.Vectors.{AtMost};
+ghost use Rattle.vec_q.specs.Raws.{raws};
+ghost use Rattle.vec_q.specs.Widths.{IsBelow};
 ghost use Rattle.sparse_cg.specs.Turns.{moved, ratio};
 ghost use Rattle.sparse_cg.specs.Calls.Lists.{ArePositive, AreShort, left_over, shortened};
 
 use num_q::Q;
+use space3::V3;
+use vec_q::VecQ;
 
 // A number, and so much of another.
 pub(crate) fn moved(share: Q<20, 60>, number: Q<0, 44>, way: Q<0, 44>) -> Q<0, 44>
@@ -108,4 +113,24 @@ pub(crate) fn kept(number: Q<0, 44>) -> i64
     ensures short { unsigned_abs result < 2 ^ 44 }
 {
     number.raw() as i64
+}
+
+// The diagonal entries of a node.
+pub(crate) fn entries(v: V3) -> VecQ<0, 62>
+    requires { IsBelow 62 v }
+    ensures { raws result ≡ v }
+{
+    VecQ {
+        x: Q::of_raw(v.x as i128),
+        y: Q::of_raw(v.y as i128),
+        z: Q::of_raw(v.z as i128),
+    }
+}
+
+// An entry, or 1 where it is less.
+pub(crate) fn at_least_one(entry: Q<0, 62>) -> Q<0, 62>
+    ensures value { result.raw ≡ int_max (pos 1) entry.raw }
+    ensures positive { pos 0 <ℤ result.raw }
+{
+    Q::of_raw(entry.raw().max(1))
 }

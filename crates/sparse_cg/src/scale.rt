@@ -10,7 +10,7 @@ ghost use Rattle.sparse_cg.specs.Systems.{FitAt, IsShift, divisors_of, system_of
 ghost use Rattle.sparse_cg.specs.Calls.Lists.{ArePositive, AreShort, IsGreatest};
 ghost use Rattle.sparse_cg.specs.Calls.States.{IsTask, system_in};
 
-use crate::numbers::kept;
+use crate::numbers::{at_least_one, entries, kept};
 use crate::state::Task;
 use block_rows::Rows;
 use num_q::Q;
@@ -139,18 +139,17 @@ fn divisors_at(rows: &Rows, node: u32) -> V3
     ensures { components result ≡ map (int_max (pos 1))
         (components (diagonal_of (table_of rows.now node node))) }
 {
-    let diagonal = rows.diagonal(node);
+    let diagonal = entries(rows.diagonal(node));
     V3 {
-        x: at_least_one(diagonal.x),
-        y: at_least_one(diagonal.y),
-        z: at_least_one(diagonal.z),
+        x: divisor_of(diagonal.x),
+        y: divisor_of(diagonal.y),
+        z: divisor_of(diagonal.z),
     }
 }
 
-fn at_least_one(entry: i64) -> i64
-    requires { unsigned_abs entry < 2 ^ 62 }
-    ensures value { result ≡ int_max (pos 1) entry }
+fn divisor_of(entry: Q<0, 62>) -> i64
+    ensures value { result ≡ int_max (pos 1) entry.raw }
     ensures small { unsigned_abs result < 2 ^ 62 }
 {
-    if entry < 1 { 1 } else { entry }
+    at_least_one(entry).raw() as i64
 }

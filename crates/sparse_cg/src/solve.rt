@@ -12,7 +12,8 @@ use crate::search::search;
 use crate::work::Work;
 use block_rows::Rows;
 
-/// Whether there is a Newton direction of a matrix and a gradient; where there is, it stands in `work.dir()`
+/// Whether there is a Newton direction of a matrix and a gradient, by conjugate gradients with the diagonal as
+/// preconditioner (a textbook method, here in whole numbers); where there is, it stands in `work.dir()`
 /// afterwards. The gradient has three numbers for each node, each at most 2^124 in absolute value. Takes no memory.
 pub fn newton(rows: &Rows, g: &[i128], work: &mut Work) -> bool
     requires nodes { length work.old ≡ nodes_of rows.now }

@@ -1,5 +1,4 @@
-use Rattle.std.proofs.Common.{◌≤◌, ◌<◌, ◌*◌, ◌^◌, ℕ, ℤ, [], ◌∷◌, refl, arith, unsigned_abs}
-use Rattle.std.specs.Prelude.{All}
+use Rattle.std.proofs.Common.{◌≤◌, ◌<◌, ◌^◌, ℤ, [], ◌∷◌, refl, arith, unsigned_abs}
 use Rattle.std.proofs.lemmas.List.Elements.{All-cons, All-from_recursion, All-nil}
 use Rattle.num_q.specs.Rounding.{cut_of}
 use Rattle.sparse_cg.specs.Example.{slopes_of_two, system_of_two}

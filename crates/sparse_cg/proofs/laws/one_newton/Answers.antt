@@ -1,5 +1,5 @@
 use Rattle.sparse_cg.specs.Systems.{system_of}
-use Rattle.sparse_cg.proofs.OneDirection.{newton_from_search, same_as_found, search_from_newton}
+use Rattle.sparse_cg.proofs.OneDirection.{same_as_found, search_from_newton}
 use Rattle.sparse_cg.proofs.laws.one_newton.Goals as goal
 use Rattle.std.proofs.Common.{refl}
 
