@@ -19,13 +19,14 @@ pub fn one_newton()
 /// The first turn, Newton's direction after the second one, and Jacobi's, for two nodes.
 pub fn directions_of_two_nodes()
     ensures turn { turned system_of_two (start system_of_two) ≡ record {
-        x = neg_ℤ (pos 5943237) ∷ pos 13372281 ∷ neg_ℤ (pos 22923912) ∷ pos 4457426
-            ∷ neg_ℤ (pos 53489125) ∷ neg_ℤ (pos 825405) ∷ [];
-        r = pos 13760 ∷ neg_ℤ (pos 277133) ∷ neg_ℤ (pos 66088) ∷ neg_ℤ (pos 51038)
-            ∷ neg_ℤ (pos 45061) ∷ neg_ℤ (pos 108906) ∷ [];
-        p = neg_ℤ (pos 12223) ∷ neg_ℤ (pos 20420799) ∷ neg_ℤ (pos 10099241) ∷ neg_ℤ (pos 4814066)
-            ∷ neg_ℤ (pos 13346490) ∷ neg_ℤ (pos 9062433) ∷ [];
-        rho = pos 8160610259870 } }
+      x = neg_ℤ (pos 5943237) ∷ pos 13372281 ∷ neg_ℤ (pos 22923912) ∷ pos 4457426
+          ∷ neg_ℤ (pos 53489125) ∷ neg_ℤ (pos 825405) ∷ [];
+      r = pos 13760 ∷ neg_ℤ (pos 277133) ∷ neg_ℤ (pos 66088) ∷ neg_ℤ (pos 51038)
+          ∷ neg_ℤ (pos 45061) ∷ neg_ℤ (pos 108906) ∷ [];
+      p = neg_ℤ (pos 12223) ∷ neg_ℤ (pos 20420799) ∷ neg_ℤ (pos 10099241) ∷ neg_ℤ (pos 4814066)
+          ∷ neg_ℤ (pos 13346490) ∷ neg_ℤ (pos 9062433) ∷ [];
+      rho = pos 8160610259870;
+    } }
     ensures newton { IsNewton 2 two_nodes slopes_of_two
         (vector (neg_ℤ (pos 91)) (neg_ℤ (pos 274)) (neg_ℤ (pos 586))
         ∷ vector (neg_ℤ (pos 45)) (neg_ℤ (pos 1129)) (neg_ℤ (pos 225)) ∷ []) }
