@@ -111,7 +111,6 @@ few_close_parts s x h =
     at_most : {n m a b : ℕ} → n ≤ a + b → a ≤ 98304 * 32768 → b ≤ 98304 * 98304 → m ≡ n → m ≤ 12884901888
     at_most h k l e = omega (arith, h, k, l, e)
 
-
 -- ---- the pairs that were found
 pub found_are_close : (s : Setup) (x : List V3) (pairs : List Pair) → IsSetup s → IsUpright s x → pairs ≡ close_pairs_of (unsigned_abs s.numbers.dhat) s.surface x → All (IsClosePair s x) pairs
 found_are_close s x pairs h stands e = subst (All (IsClosePair s x)) (sym e) (are_close_pairs s x h stands)

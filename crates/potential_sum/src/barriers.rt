@@ -7,10 +7,12 @@ ghost use Rattle.near_pair.specs.Answers.{IsBounded, IsOn};
 ghost use Rattle.barrier_term.specs.Blocks.{barrier_block};
 ghost use Rattle.boundary.specs.Pairs.{IsPair, part_pair};
 ghost use Rattle.broad_grid.specs.NearPairs.{close_pairs_of};
+ghost use Rattle.surface_mesh.specs.declared.materials.Numbers.{Numbers};
 ghost use Rattle.surface_mesh.specs.Materials.{AreNumbers};
 ghost use Rattle.surface_mesh.specs.Setup.{IsSetup};
 ghost use Rattle.potential_sum.specs.declared.pulls.Quantity.TheVariants as quantities;
-ghost use Rattle.potential_sum.specs.Calls.Barriers.{AreFour, IsClosePair, MayPush, barrier_at, parts_in};
+ghost use Rattle.potential_sum.specs.Calls.Barriers.{AreFour, IsClosePair, MayPush, barrier_at};
+ghost use Rattle.potential_sum.specs.Calls.Barriers.{barrier_of, parts_in};
 ghost use Rattle.potential_sum.specs.Calls.Sums.{AreLight, pulls_of, with_parts};
 ghost use Rattle.potential_sum.specs.Contributions.{barrier_contribution, diagonal_of};
 ghost use Rattle.potential_sum.specs.Upright.{IsUpright};
@@ -67,15 +69,36 @@ fn parts_of(surface: &Surface, pair: Pair) -> TwoParts
     }
 }
 
+/// Where the four nodes of two parts stand, and the nearest points of the parts.
+#[derive(Clone, Copy)]
+struct Nearest {
+    points: [V3; 4],
+    near: Near,
+}
+
 impl TwoParts {
+    // The nearest points where the nodes stand at x.
+    fn nearest(&self, x: &Places) -> Nearest
+        requires { MayPush x.now (parts_in self.now) }
+        ensures barrier { (numbers : Numbers) →
+            barrier_of numbers self.now.nodes self.now.split result.points result.near
+            ≡ barrier_contribution numbers x.now (parts_in self.now) }
+        ensures bounded { IsBounded result.near }
+        ensures on { IsOn self.now.split result.points result.near }
+    {
+        let points = corners_at(x, &self.nodes);
+        let near = near_parts(self.split, &points);
+        Nearest { points, near }
+    }
+
     // The energy of the barrier where the nodes stand at x.
     fn energy(&self, numbers: &Numbers, x: &Places) -> i128
         requires numbers { AreNumbers numbers.now }
         requires close { MayPush x.now (parts_in self.now) }
         ensures { result ≡ (barrier_contribution numbers.now x.now (parts_in self.now)).energy }
     {
-        let near = near_parts(self.split, &corners_at(x, &self.nodes));
-        barrier_energy(numbers.kappa, numbers.dhat, &near)
+        let found = self.nearest(x);
+        barrier_energy(numbers.kappa, numbers.dhat, &found.near)
     }
 
     // The vectors of a quantity at the four nodes.
@@ -98,8 +121,7 @@ impl TwoParts {
         ensures { result ≡ pulls_of quantities.Pull
             (barrier_contribution numbers.now x.now (parts_in self.now)) }
     {
-        let points = corners_at(x, &self.nodes);
-        let near = near_parts(self.split, &points);
+        let Nearest { points, near } = self.nearest(x);
         let pulls = barrier_gradient(numbers.kappa, numbers.dhat, &near, self.split, &points);
         [
             pull_at(self.nodes[0], pulls[0]),
@@ -116,8 +138,7 @@ impl TwoParts {
         ensures { result ≡ pulls_of quantities.Stiffness
             (barrier_contribution numbers.now x.now (parts_in self.now)) }
     {
-        let points = corners_at(x, &self.nodes);
-        let near = near_parts(self.split, &points);
+        let Nearest { points, near } = self.nearest(x);
         [
             pull_at(self.nodes[0], self.diagonal(numbers, &near, &points, 0)),
             pull_at(self.nodes[1], self.diagonal(numbers, &near, &points, 1)),

@@ -56,11 +56,16 @@ itself most a = record { x = record { bound = none a.x most }; y = record { boun
 four_near : (most : ℕ) (p q r s : V3) → Within most (difference q p) → Within most (difference r p) → Within most (difference s p) → Within most (difference r q) → Within most (difference s q) → Within most (difference s r) →
     AreNear most (p ∷ q ∷ r ∷ s ∷ [])
 four_near most p q r s qp rp sp rq sq sr =
-    All-from_recursion (λ a. All (λ b. Within most (difference a b)) (p ∷ q ∷ r ∷ s ∷ [])) (p ∷ q ∷ r ∷ s ∷ [])
-    (row p (itself most p) (back most q p qp) (back most r p rp) (back most s p sp),
-    (row q qp (itself most q) (back most r q rq) (back most s q sq),
-    (row r rp rq (itself most r) (back most s r sr),
-    (row s sp sq sr (itself most s), tt))))
+    All-from_recursion (λ a. All (λ b. Within most (difference a b)) (p ∷ q ∷ r ∷ s ∷ [])) (p ∷ q ∷ r ∷ s ∷ []) (
+      row p (itself most p) (back most q p qp) (back most r p rp) (back most s p sp),
+      (
+        row q qp (itself most q) (back most r q rq) (back most s q sq),
+        (
+          row r rp rq (itself most r) (back most s r sr),
+          (row s sp sq sr (itself most s), tt),
+        ),
+      ),
+    )
   where
     row : (a : V3) → Within most (difference a p) → Within most (difference a q) → Within most (difference a r) → Within most (difference a s) → All (λ b. Within most (difference a b)) (p ∷ q ∷ r ∷ s ∷ [])
     row a h k l m = All-from_recursion (λ b. Within most (difference a b)) (p ∷ q ∷ r ∷ s ∷ []) (h, (k, (l, (m, tt))))

@@ -80,19 +80,19 @@ returns-then-not-branch-clause-tally c = inr (
 pub returns-clause-allowed : goal.returns-clause-allowed
 returns-clause-allowed c =
     let fits : FitsSigned w128 c.in_ok-lower.lower = search rules in (
-  λ t. record {
-    in_reach = record {
-      in_box = c.requires.in_box;
-      edges = subst (All (λ (tet : Tet). HasShortEdges c.args.y.now tet.nodes)) c.items-tets.ensures (c.are_short.ensures.0 c.if-not-are_short.false);
-    };
-    certified =
-        certified_step c.args.setup.now c.args.x.now c.args.y.now
-        (subst (All (HasCertificate c.args.x.now c.args.y.now)) c.items-tets.ensures (c.are_certified.ensures.0 c.if-not-are_certified.false))
-        (c.in_ok-are_pairs_apart.ensures.apart.0 c.if-not-branch.false);
-    lower = below c.args.upper c.in_ok-lower.lower _ _ c.ranges.upper fits c.requires.upper c.in_ok-lower.ensures c.if-upper-lower.false;
-  },
-  λ a. refl,
-)
+      λ t. record {
+        in_reach = record {
+          in_box = c.requires.in_box;
+          edges = subst (All (λ (tet : Tet). HasShortEdges c.args.y.now tet.nodes)) c.items-tets.ensures (c.are_short.ensures.0 c.if-not-are_short.false);
+        };
+        certified =
+            certified_step c.args.setup.now c.args.x.now c.args.y.now
+            (subst (All (HasCertificate c.args.x.now c.args.y.now)) c.items-tets.ensures (c.are_certified.ensures.0 c.if-not-are_certified.false))
+            (c.in_ok-are_pairs_apart.ensures.apart.0 c.if-not-branch.false);
+        lower = below c.args.upper c.in_ok-lower.lower _ _ c.ranges.upper fits c.requires.upper c.in_ok-lower.ensures c.if-upper-lower.false;
+      },
+      λ a. refl,
+    )
 
 pub returns-clause-tally : goal.returns-clause-tally
 returns-clause-tally c = inr (

@@ -6,23 +6,15 @@ use Rattle.space3.specs.declared.vectors.V3.{V3}
 use Rattle.potential_sum.specs.declared.pulls.Quantity.TheVariants as quantities
 use Rattle.potential_sum.specs.Calls.Sums.{as_pull, pulls_of}
 use Rattle.potential_sum.specs.Contributions.{diagonal_of}
-use Rattle.potential_sum.proofs.HeldParts.{four_pulls, held_barrier, held_close, held_four, held_split, held_there}
+use Rattle.potential_sum.proofs.HeldParts.{four_pulls, held_four}
 use Rattle.potential_sum.proofs.barriers.TwoParts.diagonals.Goals as goal
-
-pub corners_at-points-requires : goal.corners_at-points-requires
-corners_at-points-requires c = held_there c.args.x.now c.args.self.now c.requires.close
-
-pub near_parts-near-requires-clause-split : goal.near_parts-near-requires-clause-split
-near_parts-near-requires-clause-split c = held_split c.args.x.now c.args.self.now c.requires.close
-
-pub near_parts-near-requires-clause-close : goal.near_parts-near-requires-clause-close
-near_parts-near-requires-clause-close c = held_close c.args.x.now c.args.self.now c.corners_at-points.result c.requires.close c.corners_at-points.ensures
 
 pub returns : goal.returns
 returns c =
     let numbers = c.args.numbers.now in
     let nodes = c.args.self.now.nodes in
-    let diagonal : ℕ → V3 = λ i. diagonal_of (barrier_block numbers.kappa numbers.dhat c.near_parts-near.result c.args.self.now.split c.corners_at-points.result i i) in
+    let found = c.nearest.result in
+    let diagonal : ℕ → V3 = λ i. diagonal_of (barrier_block numbers.kappa numbers.dhat found.near c.args.self.now.split found.points i i) in
     let vectors : List V3 = map diagonal (0 ∷ 1 ∷ 2 ∷ 3 ∷ []) in
     four
     (c.pull_at.ensures ∙ ap (λ row. as_pull (get_or nodes 0 0, vector_of row)) c.diagonal.ensures)
@@ -30,4 +22,4 @@ returns c =
     (c.pull_at-3.ensures ∙ ap (λ row. as_pull (get_or nodes 2 0, vector_of row)) c.diagonal-3.ensures)
     (c.pull_at-4.ensures ∙ ap (λ row. as_pull (get_or nodes 3 0, vector_of row)) c.diagonal-4.ensures)
     ∙ four_pulls nodes vectors (map components vectors) (held_four c.args.x.now c.args.self.now c.requires.close) refl refl
-    ∙ ap (pulls_of quantities.Stiffness) (held_barrier numbers c.args.x.now c.args.self.now c.corners_at-points.result c.near_parts-near.result c.requires.close c.corners_at-points.ensures c.near_parts-near.ensures.value)
+    ∙ ap (pulls_of quantities.Stiffness) (c.nearest.ensures.barrier numbers)

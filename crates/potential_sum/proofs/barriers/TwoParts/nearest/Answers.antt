@@ -1,0 +1,14 @@
+use Rattle.potential_sum.proofs.HeldParts.{held_barrier, held_close, held_split, held_there}
+use Rattle.potential_sum.proofs.barriers.TwoParts.nearest.Goals as goal
+
+pub corners_at-points-requires : goal.corners_at-points-requires
+corners_at-points-requires c = held_there c.args.x.now c.args.self.now c.requires
+
+pub near_parts-near-requires-clause-split : goal.near_parts-near-requires-clause-split
+near_parts-near-requires-clause-split c = held_split c.args.x.now c.args.self.now c.requires
+
+pub near_parts-near-requires-clause-close : goal.near_parts-near-requires-clause-close
+near_parts-near-requires-clause-close c = held_close c.args.x.now c.args.self.now c.corners_at-points.result c.requires c.corners_at-points.ensures
+
+pub returns-clause-barrier : goal.returns-clause-barrier
+returns-clause-barrier c = λ numbers. held_barrier numbers c.args.x.now c.args.self.now c.corners_at-points.result c.near_parts-near.result c.requires c.corners_at-points.ensures c.near_parts-near.ensures.value
