@@ -32,14 +32,6 @@ pub HasAllRows_as : (es entries : List Entry) (c cells : Cells) (old start found
 HasAllRows_as es entries c cells old start found e f g h =
     subst (λ xs. HasAllRows xs cells start found) e (subst (λ k. HasAllRows es k start found) f (subst (λ ns. HasAllRows es c ns found) g h))
 
--- all entries
-pub HasRows_all : (entries : List Entry) (c : Cells) (rows : ℕ) (old new : List ℕ) → new ≡ old ++ map (λ (e : Entry). e.item) entries → HasRows entries c rows old new
-HasRows_all entries c rows old new is = record {
-  kept = λ x h. subst (λ (ns : List ℕ). Contains ns x) (sym is) (Contains-append_left old (map (λ (e : Entry). e.item) entries) x h);
-  has = λ r e l there lo hi. subst (λ (ns : List ℕ). Contains ns e.item) (sym is) (Contains-append_right old (map (λ (x : Entry). x.item) entries) e.item (Contains-map (λ (x : Entry). x.item) entries e there));
-  only = λ n all below. subst (λ ns. All (λ i. i < n) ns) (sym is) (All-append (λ i. i < n) old (map (λ (e : Entry). e.item) entries) below (All-map (λ i. i < n) (λ (x : Entry). x.item) entries all));
-}
-
 -- one row more
 pub HasRows_more : (entries : List Entry) (c : Cells) (row : ℕ) (part : List Entry) (old found new : List ℕ) → HasRows entries c row old found → ((e : Entry) → Contains entries e → row_of c row ≤ e.key → e.key < row_of c row + c.height → Contains part e) → ((n : ℕ) → All (λ (e : Entry). e.item < n) entries → All (λ (e : Entry). e.item < n) part) → new ≡ found ++ map (λ e. e.item) part → HasRows entries c (row + 1) old new
 HasRows_more entries c row part old found new h has only is = record {

@@ -1,12 +1,15 @@
 -- The items of the rows of a box's cells are candidates, and a filter of candidates keeps what it keeps of all positions.
-use Rattle.std.proofs.Common.{◌≡◌, ℕ, ◌<◌, ◌≤◌, Bool, true, false, not, List, [], length, get_or, ap, sym, subst, arith, inl, inr}
+use Rattle.std.proofs.Common.{◌≡◌, ◌∙◌, ℕ, ◌<◌, ◌≤◌, Bool, true, false, not, List, [], length, get_or, ap, sym, subst, arith, inl, inr}
 use Rattle.std.specs.Prelude.{IsTrue, filter}
 use Rattle.std.specs.List.{range_with_len, All, Contains}
 use Rattle.std.specs.List.Sorted.{IsStrictlyIncreasing}
+use Rattle.std.proofs.lemmas.Map.Keys.{IsStrictlyIncreasing-from_sorted}
 use Rattle.std.proofs.lemmas.Bool.{cases_Bool}
 use Rattle.std.proofs.lemmas.List.Elements.{All-contains, Contains-get_or}
 use Rattle.std.proofs.lemmas.List.Sorted.{All-permutation, Contains-permutation}
 use Rattle.std.proofs.lemmas.Option.{get_or_from_slice_get, slice_get_within}
+use Rattle.list_laws.proofs.CountedWrites.{All-counted}
+use Rattle.list_laws.proofs.SortedJoins.{sorted-range_with_len}
 use Rattle.space3.specs.Boxes.{are_within}
 use Rattle.space3.specs.Vectors.{origin}
 use Rattle.space3.specs.declared.boxes.BoundingBox.{BoundingBox}
@@ -16,7 +19,7 @@ use Rattle.box_grid.specs.declared.sizes.Level.{Level}
 use Rattle.box_grid.specs.declared.limits.TheConstants.{REACH_LIMIT}
 use Rattle.box_grid.specs.Candidates.{AreCandidates, IsNear, LiesInTheBox, OnlyNearPass}
 use Rattle.box_grid.specs.Calls.Cells.{HasAllRows, IsGrid, IsLevel, box_at, cells_over, entries_of_boxes, entry, has, is_great, level_of}
-use Rattle.box_grid.proofs.CellRows.{items_below}
+use Rattle.box_grid.proofs.CellRows.{in_range, items_below}
 use Rattle.box_grid.proofs.CommonCells.{entry_of_near_box}
 use Rattle.box_grid.proofs.SameFilter.{same_filter}
 
@@ -44,8 +47,8 @@ candidates side great_side reach around boxes entries great_entries common items
     let first = level_of false side side in
     let second = level_of true side great_side in
     let below : All (λ i. i < length boxes) items =
-        positions second boxes great_entries (cells_over great_side reach around) common items grid.great great_rows
-        (positions first boxes entries (cells_over side reach around) [] common grid.common rows (λ k d n. absurd (omega (arith, n)))) in
+    positions second boxes great_entries (cells_over great_side reach around) common items grid.great great_rows
+    (positions first boxes entries (cells_over side reach around) [] common grid.common rows (λ k d n. absurd (omega (arith, n)))) in
     record {
       ascending = rises;
       there = λ k d n. All-contains (λ i. i < length boxes) items (get_or ascending k d) below (adds (get_or ascending k d) (Contains-get_or ascending k d n));
@@ -54,6 +57,19 @@ candidates side great_side reach around boxes entries great_entries common items
         | inr f ↦ great_rows.kept i (comes_up first reach around boxes entries [] common i grid.common grid.in_box m h rows near (ap not f))
       ]);
     }
+
+-- all positions are candidates
+all_positions : (reach : ℕ) (around : BoundingBox) (boxes : List BoundingBox) → AreCandidates reach around boxes (range_with_len 0 (length boxes))
+all_positions reach around boxes = record {
+  ascending = IsStrictlyIncreasing-from_sorted (range_with_len 0 (length boxes)) (sorted-range_with_len 0 (length boxes));
+  there = All-counted (λ i. i < length boxes) (length boxes) (λ i h. h);
+  all_near = λ i near. in_range (length boxes) i (slice_get_within boxes i near.box near.stands);
+}
+
+pub as_many_positions : (reach : ℕ) (around : BoundingBox) (inner boxes : List BoundingBox) (count : ℕ) (found : List ℕ) → found ≡ range_with_len 0 count → count ≡ length inner → inner ≡ boxes → AreCandidates reach around boxes found
+as_many_positions reach around inner boxes count found is many same =
+    subst (λ bs. AreCandidates reach around bs found) same
+    (subst (AreCandidates reach around inner) (sym (is ∙ ap (range_with_len 0) many)) (all_positions reach around inner))
 
 pub pass_as_all_positions : (reach : ℕ) (around : BoundingBox) (boxes : List BoundingBox) (found : List ℕ) → AreCandidates reach around boxes found → (p : ℕ → Bool) → OnlyNearPass reach around boxes p →
     filter p found ≡ filter p (range_with_len 0 (length boxes))

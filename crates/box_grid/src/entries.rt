@@ -1,6 +1,6 @@
 //! Entries of the cells that boxes cover, sorted by the cells' keys.
 ghost use Rattle.std.specs.Prelude.{◌≡◌, ◌+◌, ◌*◌, ◌^◌, ◌<◌, ◌≤◌, ◌++◌, ℕ, IfOk, length, map, All, slice_index_or};
-ghost use Rattle.std.specs.List.{Contains};
+ghost use Rattle.std.specs.List.{Contains, range_with_len};
 ghost use Rattle.std.specs.List.Sorted.{IsNonDecreasingBy, IsPermutation, IsStrictlyIncreasing};
 ghost use Rattle.space3.specs.declared.boxes.BoundingBox.{BoundingBox};
 ghost use Rattle.box_grid.specs.declared.entries.Entry.{Entry};
@@ -37,8 +37,7 @@ pub(crate) fn entries_of_boxes(
     Ok(entries)
 }
 
-/// Appends the items of the entries of these cells to `found`, in any order, and perhaps others. Where there are more
-/// rows than entries, it takes all of them.
+/// Appends the items of the entries of these cells to `found`, in any order.
 pub(crate) fn append_items_over(
     entries: &[Entry],
     cells: &Cells,
@@ -49,9 +48,6 @@ pub(crate) fn append_items_over(
     ensures { IfOk result (λ _.
         HasAllRows entries.now cells.now found.old.items found.new.items) }
 {
-    if row_count(cells) > entries.len() as u64 {
-        return append_items(entries, found);
-    }
     for row in 0..row_count(cells) {
         let part = part_from(entries, row_of(cells, row), cells.height);
         append_items(part, found)?;
@@ -67,6 +63,17 @@ pub(crate) fn keep_ascending(items: &mut Vec<u32>)
 {
     items.sort_unstable();
     items.dedup();
+}
+
+/// Writes the positions of so many boxes into `found`, in order.
+pub(crate) fn write_positions(count: u32, found: &mut Vec<u32>) -> Result<(), AllocError>
+    ensures { IfOk result (λ _. found.new.items ≡ range_with_len 0 count) }
+{
+    found.clear();
+    for position in 0..count {
+        found.push(position)?;
+    }
+    Ok(())
 }
 
 // An entry for each cell of each box of the level.

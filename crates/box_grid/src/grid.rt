@@ -4,9 +4,9 @@ ghost use Rattle.std.specs.List.{range_with_len};
 ghost use Rattle.space3.specs.declared.boxes.BoundingBox.{BoundingBox};
 ghost use Rattle.box_grid.specs.Candidates.{AreCandidates, LiesInTheBox, OnlyNearPass};
 
-use crate::cells::cells_over;
-use crate::entries::{Entry, append_items_over, entries_of_boxes, keep_ascending};
-use crate::limits::REACH_LIMIT;
+use crate::cells::{cells_over, row_count};
+use crate::entries::{Entry, append_items_over, entries_of_boxes, keep_ascending, write_positions};
+use crate::limits::{BOXES_A_ROW, REACH_LIMIT};
 use crate::sizes::{Level, common_side, great_side};
 use space3::BoundingBox;
 use std::alloc::{AllocError, Global};
@@ -87,6 +87,10 @@ impl BoxGrid {
         ensures { IfOk result (λ _. AreCandidates reach around.now self.now found.new.items) }
     {
         let cells = cells_over(self.side, reach, around);
+        let count = self.boxes().len();
+        if row_count(&cells) > count as u64 / BOXES_A_ROW {
+            return write_positions(count as u32, found);
+        }
         let great_cells = cells_over(self.great_side, reach, around);
         found.clear();
         append_items_over(&self.entries, &cells, found)?;

@@ -34,13 +34,15 @@ pub(crate) fn common_side(boxes: &[BoundingBox], reach: u32) -> u64
 }
 
 /// The side of the cells for the boxes that are great beside cells of the common side: about their mean longest side,
-/// and never so small that a box covers many cells.
+/// which is more than [`MOST_SPLIT`] common sides, and never so small that a box covers many cells.
 pub(crate) fn great_side(boxes: &[BoundingBox], common: u64) -> u64
     ensures coarse { common ≤ result }
     ensures few_cells { All (λ b. longest_side b < MOST_SPLIT * result) boxes.now }
 {
     let longest = longest_of_all(boxes);
-    mean_side(boxes, common).max(longest / MOST_SPLIT + 1).max(common)
+    mean_side(boxes, common)
+        .max(longest / MOST_SPLIT + 1)
+        .max(common.saturating_mul(MOST_SPLIT))
 }
 
 // The mean longest side of the boxes that are great beside cells of this side; of all boxes beside cells of side 0.

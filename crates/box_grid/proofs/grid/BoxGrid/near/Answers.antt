@@ -1,9 +1,16 @@
 use Rattle.std.proofs.Common.{List, refl, subst}
+use Rattle.std.proofs.lemmas.Result.{IfOk-weaker}
 use Rattle.space3.specs.declared.boxes.BoundingBox.{BoundingBox}
 use Rattle.box_grid.specs.Candidates.{AreCandidates}
 use Rattle.box_grid.proofs.EntryParts.{HasAllRows_as}
-use Rattle.box_grid.proofs.Service.{candidates}
+use Rattle.box_grid.proofs.Service.{as_many_positions, candidates}
 use Rattle.box_grid.proofs.grid.BoxGrid.near.Goals as goal
+
+pub returns-then-row_count-count : goal.returns-then-row_count-count
+returns-then-row_count-count c =
+    IfOk-weaker c.write_positions.result (λ _. _) (λ _. _)
+    (λ _ is. as_many_positions c.args.reach c.args.around.now c.boxes-count.result.now c.args.self.now _ c.write_positions.new.found.items is refl c.boxes-count.ensures.boxes)
+    c.write_positions.ensures
 
 pub returns : goal.returns
 returns c =
