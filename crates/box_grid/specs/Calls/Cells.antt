@@ -116,7 +116,8 @@ abbrev pub level_of : Bool → ℕ → ℕ → Level
 level_of great common side = record { great = great; common = common; side = side }
 
 -- boxes in the box of places; the great ones are entered in cells of their own side, the others in those of the first
-pub record IsGrid (boxes : List BoundingBox) (side : ℕ) (entries : List Entry) (great_side : ℕ) (great_entries : List Entry) : Type 0 where
+pub record IsGrid (boxes : List BoundingBox) (side : ℕ) (entries : List Entry) (great_side : ℕ)
+    (great_entries : List Entry) : Type 0 where
   pub few : length boxes < 2 ^ 32
   pub in_box : All LiesInTheBox boxes
   pub common : IsLevel (level_of false side side) boxes entries
