@@ -1,5 +1,5 @@
 -- The rows of cells: where each cell is, and that its entry is there.
-use Rattle.std.proofs.Common.{◌≡◌, ◌∙◌, ℕ, ◌+◌, ◌-◌, ◌*◌, ◌/◌, ◌%◌, ◌<◌, ◌≤◌, List, length, get_or, zero-add, ap, arith, subst}
+use Rattle.std.proofs.Common.{◌≡◌, if◌then◌else◌, ◌∙◌, ℕ, Bool, true, false, ◌+◌, ◌-◌, ◌*◌, ◌/◌, ◌%◌, ◌<◌, ◌≤◌, List, [], length, get_or, zero-add, ap, arith, subst}
 use Rattle.std.specs.List.{range_with_len, All, Contains}
 use Rattle.std.proofs.lemmas.Nat.{div-mul-add, mod-mul-add, mul-add-lt}
 use Rattle.std.proofs.lemmas.List.FromFn.{length-range_with_len, get_or-range_with_len}
@@ -8,7 +8,8 @@ use Rattle.list_laws.proofs.Membership.{Contains-map, Contains-flat_map, All-fla
 use Rattle.space3.specs.declared.boxes.BoundingBox.{BoundingBox}
 use Rattle.box_grid.specs.declared.cells.Cells.{Cells}
 use Rattle.box_grid.specs.declared.entries.Entry.{Entry}
-use Rattle.box_grid.specs.Calls.Cells.{box_at, cells_over, entries_of, entries_of_boxes, entry, key_of, row_of, run_of}
+use Rattle.box_grid.specs.declared.sizes.Level.{Level}
+use Rattle.box_grid.specs.Calls.Cells.{box_at, cells_over, entries_in, entries_of, entries_of_boxes, entry, has, key_of, row_of, run_of}
 
 pub in_range : (n k : ℕ) → k < n → Contains (range_with_len 0 n) k
 in_range n k h = (k, omega (arith, length-range_with_len 0 n), get_or-range_with_len 0 n k k h ∙ zero-add k)
@@ -39,14 +40,19 @@ entry_of_cell c item x y z xl xh yl yh zl zh =
     (Contains-map (λ k. entry (row_of c row.0 + k) item) (range_with_len 0 c.height) (z - c.z) (in_range c.height (z - c.z) (omega arith))))
 
 -- each entry's item is a position
-pub items_below : (side : ℕ) (boxes : List BoundingBox) → All (λ (e : Entry). e.item < length boxes) (entries_of_boxes side boxes)
-items_below side boxes =
-    All-flat_map (λ (e : Entry). e.item < length boxes) (λ i. entries_of (cells_over side 0 (box_at boxes i)) i) (range_with_len 0 (length boxes))
+pub items_below : (level : Level) (boxes : List BoundingBox) → All (λ (e : Entry). e.item < length boxes) (entries_of_boxes level boxes)
+items_below level boxes =
+    All-flat_map (λ (e : Entry). e.item < length boxes) (λ i. entries_in level (box_at boxes i) i) (range_with_len 0 (length boxes))
     (λ k d h.
     let i = get_or (range_with_len 0 (length boxes)) k d in
     let low : i < length boxes = omega (arith, get_or-range_with_len 0 (length boxes) k d (omega (arith, length-range_with_len 0 (length boxes))), length-range_with_len 0 (length boxes)) in
-    items_of_cells (cells_over side 0 (box_at boxes i)) i (length boxes) low)
+    where_had (has level (box_at boxes i)) (entries_of (cells_over level.side 0 (box_at boxes i)) i) (length boxes)
+    (items_of_cells (cells_over level.side 0 (box_at boxes i)) i (length boxes) low))
   where
+    where_had : (t : Bool) (es : List Entry) (n : ℕ) → All (λ (e : Entry). e.item < n) es → All (λ (e : Entry). e.item < n) (if t then es else [])
+    where_had true es n h = h
+    where_had false es n h = λ k d m. absurd (omega (arith, m))
+
     items_of_cells : (c : Cells) (item n : ℕ) → item < n → All (λ (e : Entry). e.item < n) (entries_of c item)
     items_of_cells c item n h =
         All-flat_map (λ (e : Entry). e.item < n) (λ r. run_of item (row_of c r) c.height) (range_with_len 0 (c.width * c.depth))

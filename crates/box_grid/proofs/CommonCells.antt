@@ -1,5 +1,5 @@
 -- Two boxes that are near have a common cell, when the first one's corners are moved apart by the reach.
-use Rattle.std.proofs.Common.{◌≡◌, ◌∙◌, ℕ, ◌+◌, ◌-◌, ◌*◌, ◌/◌, ◌<◌, ◌≤◌, max, min, ℤ, pos, ◌+ℤ◌, ◌-ℤ◌, ◌≤ℤ◌, unsigned_abs, List, length, ap, arith}
+use Rattle.std.proofs.Common.{◌≡◌, if◌then◌else◌, ◌∙◌, ℕ, true, ◌+◌, ◌-◌, ◌*◌, ◌/◌, ◌<◌, ◌≤◌, max, min, ℤ, pos, ◌+ℤ◌, ◌-ℤ◌, ◌≤ℤ◌, unsigned_abs, List, [], length, ap, sym, subst, arith}
 use Rattle.std.specs.Prelude.{IsTrue}
 use Rattle.std.specs.List.{range_with_len, All, Contains}
 use Rattle.std.proofs.lemmas.Bool.{and_parts}
@@ -13,9 +13,10 @@ use Rattle.space3.specs.declared.places.TheConstants.{BOX_LIMIT}
 use Rattle.space3.proofs.BoxLemmas.{gap_parts}
 use Rattle.box_grid.specs.declared.cells.Cells.{Cells}
 use Rattle.box_grid.specs.declared.entries.Entry.{Entry}
+use Rattle.box_grid.specs.declared.sizes.Level.{Level}
 use Rattle.box_grid.specs.declared.limits.TheConstants.{AXIS_LIMIT, LEAST_SIDE, REACH_LIMIT}
 use Rattle.box_grid.specs.Candidates.{LiesInTheBox}
-use Rattle.box_grid.specs.Calls.Cells.{box_at, cell_of, cells_over, entries_of, entries_of_boxes, entry, key_of, row_of}
+use Rattle.box_grid.specs.Calls.Cells.{box_at, cell_of, cells_over, entries_in, entries_of, entries_of_boxes, entry, has, key_of, row_of}
 use Rattle.box_grid.proofs.CellRows.{entry_of_cell, in_range, key_along_row, row_of_cell}
 
 -- a division by a side doesn't turn the order
@@ -82,9 +83,10 @@ entry_of_common_cell a b item cx cy cz =
     }
 
 -- a box that is near has an entry in a row of the cells
-pub entry_of_near_box : (side reach : ℕ) (around : BoundingBox) (boxes : List BoundingBox) (item : ℕ) → LEAST_SIDE ≤ side → reach ≤ REACH_LIMIT → LiesInTheBox around → All LiesInTheBox boxes → item < length boxes → IsTrue (are_within reach around (box_at boxes item)) →
-    EntryInRows (entries_of_boxes side boxes) (cells_over side reach around) item
-entry_of_near_box side reach a boxes item s m h all below near =
+pub entry_of_near_box : (level : Level) (reach : ℕ) (around : BoundingBox) (boxes : List BoundingBox) (item : ℕ) → LEAST_SIDE ≤ level.side → reach ≤ REACH_LIMIT → LiesInTheBox around → All LiesInTheBox boxes → item < length boxes → IsTrue (are_within reach around (box_at boxes item)) → has level (box_at boxes item) ≡ true →
+    EntryInRows (entries_of_boxes level boxes) (cells_over level.side reach around) item
+entry_of_near_box level reach a boxes item s m h all below near had =
+    let side = level.side in
     let b = box_at boxes item in
     let other : LiesInTheBox b = all item (record { least = origin; greatest = origin }) below in
     let outer = and_parts _ _ near in
@@ -100,7 +102,8 @@ entry_of_near_box side reach a boxes item s m h all below near =
       row = f.row;
       within = f.within;
       key = f.key;
-      there = Contains-flat_map (λ i. entries_of (cells_over side 0 (box_at boxes i)) i) (range_with_len 0 (length boxes)) item (entry f.key item) (in_range (length boxes) item below) f.there;
+      there = Contains-flat_map (λ i. entries_in level (box_at boxes i) i) (range_with_len 0 (length boxes)) item (entry f.key item) (in_range (length boxes) item below)
+          (subst (λ t. Contains (if t then entries_of (cells_over side 0 b) item else []) (entry f.key item)) (sym had) f.there);
       from = f.from;
       below = f.below;
     }

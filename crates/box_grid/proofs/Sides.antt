@@ -1,7 +1,6 @@
 -- The longest side of boxes, and how many sides of a cell it is.
-use Rattle.std.proofs.Common.{◌≡◌, ℕ, ◌+◌, ◌*◌, ◌/◌, ◌<◌, ◌≤◌, max, List, length, take, get_or, arith, subst}
+use Rattle.std.proofs.Common.{◌≡◌, ℕ, ◌+◌, ◌*◌, ◌/◌, ◌<◌, ◌≤◌, max, List, length, take, get_or, arith}
 use Rattle.std.specs.List.{All}
-use Rattle.std.proofs.lemmas.List.{take_all}
 use Rattle.std.proofs.lemmas.List.Elements.{All-more, All-weaker}
 use Rattle.space3.specs.declared.boxes.BoundingBox.{BoundingBox}
 use Rattle.box_grid.specs.declared.limits.TheConstants.{MOST_SPLIT}
@@ -22,10 +21,9 @@ sides_more boxes i d longest more there h e =
     last longest more other e = omega arith
 
 -- cells whose side is more than this part of the longest side
-pub sides_below : (boxes : List BoundingBox) (i longest side : ℕ) → length boxes ≤ i → All (λ b. longest_side b ≤ longest) (take i boxes) → longest / MOST_SPLIT + 1 ≤ side → All (λ b. longest_side b < MOST_SPLIT * side) boxes
-sides_below boxes i longest side past h e =
-    All-weaker (λ b. longest_side b ≤ longest) (λ b. longest_side b < MOST_SPLIT * side) (λ b l. below (longest_side b) longest side e l) boxes
-    (subst (All (λ b. longest_side b ≤ longest)) (take_all i boxes past) h)
+pub sides_below : (boxes : List BoundingBox) (longest side : ℕ) → All (λ b. longest_side b ≤ longest) boxes → longest / MOST_SPLIT + 1 ≤ side → All (λ b. longest_side b < MOST_SPLIT * side) boxes
+sides_below boxes longest side h e =
+    All-weaker (λ b. longest_side b ≤ longest) (λ b. longest_side b < MOST_SPLIT * side) (λ b l. below (longest_side b) longest side e l) boxes h
   where
     below : (s longest side : ℕ) → longest / MOST_SPLIT + 1 ≤ side → s ≤ longest → s < MOST_SPLIT * side
     below s longest side e l = omega arith

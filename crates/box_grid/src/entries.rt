@@ -1,14 +1,16 @@
 //! Entries of the cells that boxes cover, sorted by the cells' keys.
 ghost use Rattle.std.specs.Prelude.{◌≡◌, ◌+◌, ◌*◌, ◌^◌, ◌<◌, ◌≤◌, ◌++◌, ℕ, IfOk, length, map, All, slice_index_or};
-ghost use Rattle.std.specs.List.{Contains};
+ghost use Rattle.std.specs.List.{Contains, range_with_len};
 ghost use Rattle.std.specs.List.Sorted.{IsNonDecreasingBy, IsPermutation, IsStrictlyIncreasing};
 ghost use Rattle.space3.specs.declared.boxes.BoundingBox.{BoundingBox};
 ghost use Rattle.box_grid.specs.declared.entries.Entry.{Entry};
+ghost use Rattle.box_grid.specs.declared.sizes.Level.{Level};
 ghost use Rattle.box_grid.specs.Candidates.{LiesInTheBox};
-ghost use Rattle.box_grid.specs.Calls.Cells.{AreCells, HasAllRows, IsGrid, entries_of, entries_of_boxes, row_of, run_of};
+ghost use Rattle.box_grid.specs.Calls.Cells.{AreCells, HasAllRows, IsLevel, entries_in, entries_of, entries_of_boxes, row_of, run_of};
 
 use crate::cells::{Cells, cells_over, row_count, row_of};
 use crate::limits::{AXIS_LIMIT, LEAST_SIDE};
+use crate::sizes::{Level, has};
 use space3::BoundingBox;
 use std::alloc::{AllocError, Global};
 
@@ -19,33 +21,33 @@ pub(crate) struct Entry {
     pub item: u32,
 }
 
-/// An entry for each cell of each box, sorted by the keys.
+/// An entry for each cell of each box of the level, sorted by the keys.
 pub(crate) fn entries_of_boxes(
     alloc: Global,
-    side: u64,
+    level: Level,
     boxes: &[BoundingBox],
 ) -> Result<Vec<Entry>, AllocError>
-    requires side { LEAST_SIDE ≤ side }
+    requires side { LEAST_SIDE ≤ level.side }
     requires few { length boxes.now < 2 ^ 32 }
     requires in_box { All LiesInTheBox boxes.now }
-    ensures { IfOk result (λ entries. IsGrid side boxes.now entries.items) }
+    ensures { IfOk result (λ entries. IsLevel level boxes.now entries.items) }
 {
-    let mut entries = unsorted_entries(alloc, side, boxes)?;
+    let mut entries = unsorted_entries(alloc, level, boxes)?;
     sort_by_key(&mut entries);
     Ok(entries)
 }
 
-/// Writes the items of the entries of these cells into `found`, in any order.
-pub(crate) fn write_items(
+/// Appends the items of the entries of these cells to `found`, in any order.
+pub(crate) fn append_items_over(
     entries: &[Entry],
     cells: &Cells,
     found: &mut Vec<u32>,
 ) -> Result<(), AllocError>
     requires sorted { IsNonDecreasingBy (λ (e : Entry). e.key) entries.now }
     requires cells { AreCells cells.now }
-    ensures { IfOk result (λ _. HasAllRows entries.now cells.now found.new.items) }
+    ensures { IfOk result (λ _.
+        HasAllRows entries.now cells.now found.old.items found.new.items) }
 {
-    found.clear();
     for row in 0..row_count(cells) {
         let part = part_from(entries, row_of(cells, row), cells.height);
         append_items(part, found)?;
@@ -63,26 +65,51 @@ pub(crate) fn keep_ascending(items: &mut Vec<u32>)
     items.dedup();
 }
 
-// An entry for each cell of each box.
+/// Writes the positions of so many boxes into `found`, in order.
+pub(crate) fn write_positions(count: u32, found: &mut Vec<u32>) -> Result<(), AllocError>
+    ensures { IfOk result (λ _. found.new.items ≡ range_with_len 0 count) }
+{
+    found.clear();
+    for position in 0..count {
+        found.push(position)?;
+    }
+    Ok(())
+}
+
+// An entry for each cell of each box of the level.
 fn unsorted_entries(
     alloc: Global,
-    side: u64,
+    level: Level,
     boxes: &[BoundingBox],
 ) -> Result<Vec<Entry>, AllocError>
-    requires side { LEAST_SIDE ≤ side }
+    requires side { LEAST_SIDE ≤ level.side }
     requires few { length boxes.now < 2 ^ 32 }
     requires in_box { All LiesInTheBox boxes.now }
-    ensures { IfOk result (λ entries. entries.items ≡ entries_of_boxes side boxes.now) }
+    ensures { IfOk result (λ entries. entries.items ≡ entries_of_boxes level boxes.now) }
 {
     let mut entries = Vec::new(alloc);
     for item in 0..boxes.len() {
-        append_cells(
-            &mut entries,
-            item as u32,
-            &cells_over(side, 0, &boxes[item]),
-        )?;
+        append_box(&mut entries, level, item as u32, &boxes[item])?;
     }
     Ok(entries)
+}
+
+// Appends an entry for each cell of the box, where it is of the level.
+fn append_box(
+    entries: &mut Vec<Entry>,
+    level: Level,
+    item: u32,
+    around: &BoundingBox,
+) -> Result<(), AllocError>
+    requires side { LEAST_SIDE ≤ level.side }
+    requires in_box { LiesInTheBox around.now }
+    ensures { IfOk result (λ _. entries.new.items ≡
+        entries.old.items ++ entries_in level around.now item) }
+{
+    if has(level, around) {
+        append_cells(entries, item, &cells_over(level.side, 0, around))?;
+    }
+    Ok(())
 }
 
 // Appends an entry for each of the cells.

@@ -4,10 +4,10 @@ ghost use Rattle.std.specs.List.{range_with_len};
 ghost use Rattle.space3.specs.declared.boxes.BoundingBox.{BoundingBox};
 ghost use Rattle.box_grid.specs.Candidates.{AreCandidates, LiesInTheBox, OnlyNearPass};
 
-use crate::cells::cells_over;
-use crate::entries::{Entry, entries_of_boxes, keep_ascending, write_items};
-use crate::limits::REACH_LIMIT;
-use crate::sizes::cell_side;
+use crate::cells::{cells_over, row_count};
+use crate::entries::{Entry, append_items_over, entries_of_boxes, keep_ascending, write_positions};
+use crate::limits::{BOXES_A_ROW, REACH_LIMIT};
+use crate::sizes::{Level, common_side, great_side};
 use space3::BoundingBox;
 use std::alloc::{AllocError, Global};
 use std::marker::Model;
@@ -18,6 +18,8 @@ pub struct BoxGrid {
     boxes: Vec<BoundingBox>,
     side: u64,
     entries: Vec<Entry>,
+    great_side: u64,
+    great_entries: Vec<Entry>,
 }
 
 impl Model for BoxGrid {
@@ -29,7 +31,8 @@ impl Model for BoxGrid {
 
     ghost view = { λ g. g.boxes.items };
 
-    ghost invariant = { λ g. IsGrid g.side g.boxes.items g.entries.items };
+    ghost invariant = { λ g.
+        IsGrid g.boxes.items g.side g.entries.items g.great_side g.great_entries.items };
 }
 
 impl BoxGrid {
@@ -39,12 +42,26 @@ impl BoxGrid {
         requires in_box { All LiesInTheBox boxes.items }
         ensures { IfOk result (λ grid. grid ≡ boxes.items) }
     {
-        let side = cell_side(&boxes, reach);
-        let entries = entries_of_boxes(alloc, side, &boxes)?;
+        let side = common_side(&boxes, reach);
+        let great_side = great_side(&boxes, side);
+        let common = Level {
+            great: false,
+            common: side,
+            side,
+        };
+        let great = Level {
+            great: true,
+            common: side,
+            side: great_side,
+        };
+        let entries = entries_of_boxes(alloc, common, &boxes)?;
+        let great_entries = entries_of_boxes(alloc, great, &boxes)?;
         Ok(BoxGrid {
             boxes,
             side,
             entries,
+            great_side,
+            great_entries,
         })
     }
 
@@ -70,7 +87,14 @@ impl BoxGrid {
         ensures { IfOk result (λ _. AreCandidates reach around.now self.now found.new.items) }
     {
         let cells = cells_over(self.side, reach, around);
-        write_items(&self.entries, &cells, found)?;
+        let count = self.boxes().len();
+        if row_count(&cells) > count as u64 / BOXES_A_ROW {
+            return write_positions(count as u32, found);
+        }
+        let great_cells = cells_over(self.great_side, reach, around);
+        found.clear();
+        append_items_over(&self.entries, &cells, found)?;
+        append_items_over(&self.great_entries, &great_cells, found)?;
         keep_ascending(found);
         Ok(())
     }

@@ -11,6 +11,10 @@ pub(crate) const AXIS_LIMIT: u32 = 2_097_152;
 /// The least side of a cell. With it the positions of cells stay below [`AXIS_LIMIT`].
 pub(crate) const LEAST_SIDE: u64 = 2;
 
-/// The longest side of all boxes is less than this many sides of a cell. So a box covers at most 9 cells along an axis,
-/// and few great boxes among many small ones make no flood of entries.
+/// The longest side of a box is less than this many sides of its level's cells. So it covers at most 9 cells along an
+/// axis, and great boxes make no flood of entries.
 pub(crate) const MOST_SPLIT: u64 = 8;
+
+/// A row of cells is looked up in about the time in which so many boxes are compared. Where the cells over a box have
+/// more rows than are worth it, all boxes are candidates.
+pub(crate) const BOXES_A_ROW: u64 = 16;

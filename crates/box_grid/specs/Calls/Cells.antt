@@ -1,14 +1,15 @@
 -- The cells of a uniform grid, by rows along the third axis, and the entries of the cells that boxes cover.
-use Rattle.std.specs.Prelude.{ℕ, ◌+◌, ◌-◌, ◌*◌, ◌/◌, ◌%◌, ◌^◌, ◌<◌, ◌≤◌, ℤ, pos, ◌+ℤ◌, ◌-ℤ◌, List, length, map, max, min, unsigned_abs, All, slice_index_or}
+use Rattle.std.specs.Prelude.{ℕ, ◌+◌, ◌-◌, ◌*◌, ◌/◌, ◌%◌, ◌^◌, ◌<◌, ◌≤◌, Bool, true, false, not, if◌then◌else◌, nat_le, ℤ, pos, ◌+ℤ◌, ◌-ℤ◌, List, [], length, map, max, min, unsigned_abs, All, slice_index_or}
 use Rattle.std.specs.List.{flat_map, range_with_len, Contains}
 use Rattle.std.specs.List.Sorted.{IsNonDecreasingBy, IsPermutation}
 use Rattle.space3.specs.declared.boxes.BoundingBox.{BoundingBox}
 use Rattle.space3.specs.declared.vectors.V3.{V3}
 use Rattle.space3.specs.Vectors.{origin, vector}
-use Rattle.box_grid.specs.declared.limits.TheConstants.{AXIS_LIMIT, LEAST_SIDE}
+use Rattle.box_grid.specs.declared.limits.TheConstants.{AXIS_LIMIT, LEAST_SIDE, MOST_SPLIT}
 use Rattle.box_grid.specs.declared.cells.Cell.{Cell}
 use Rattle.box_grid.specs.declared.cells.Cells.{Cells}
 use Rattle.box_grid.specs.declared.entries.Entry.{Entry}
+use Rattle.box_grid.specs.declared.sizes.Level.{Level}
 use Rattle.box_grid.specs.Candidates.{LiesInTheBox}
 
 -- the position of the cell of a component along its axis
@@ -77,36 +78,60 @@ abbrev pub entries_of : Cells → ℕ → List Entry
 entries_of c item =
     flat_map (λ r. run_of item (row_of c r) c.height) (range_with_len 0 (c.width * c.depth))
 
--- the box at a position
-abbrev pub box_at : List BoundingBox → ℕ → BoundingBox
-box_at boxes i = slice_index_or boxes i (record { least = origin; greatest = origin })
-
--- an entry for each cell of each box
-abbrev pub entries_of_boxes : ℕ → List BoundingBox → List Entry
-entries_of_boxes side boxes =
-    flat_map (λ i. entries_of (cells_over side 0 (box_at boxes i)) i) (range_with_len 0 (length boxes))
-
--- boxes in the box of places, and the entries of their cells by keys
-pub record IsGrid (side : ℕ) (boxes : List BoundingBox) (entries : List Entry) : Type 0 where
-  pub coarse : LEAST_SIDE ≤ side
-  pub few : length boxes < 2 ^ 32
-  pub in_box : All LiesInTheBox boxes
-  pub sorted : IsNonDecreasingBy (λ (e : Entry). e.key) entries
-  pub entered : IsPermutation (entries_of_boxes side boxes) entries
-
--- the items of the entries in the first so many rows of these cells, and perhaps others of the entries
-pub record HasRows (entries : List Entry) (c : Cells) (rows : ℕ) (found : List ℕ) : Type 0 where
-  pub has : (r : ℕ) (e : Entry) → r < rows → Contains entries e → row_of c r ≤ e.key →
-      e.key < row_of c r + c.height → Contains found e.item
-  pub only : (n : ℕ) → All (λ (e : Entry). e.item < n) entries → All (λ i. i < n) found
-
--- the items of the entries in all rows
-abbrev pub HasAllRows : List Entry → Cells → List ℕ → Type 0
-HasAllRows entries c found = HasRows entries c (c.width * c.depth) found
-
 -- how far apart the corners of a box are along an axis
 abbrev pub side_along : (V3 → ℤ) → BoundingBox → ℕ
 side_along axis b = unsigned_abs (axis b.greatest -ℤ axis b.least)
 
 abbrev pub longest_side : BoundingBox → ℕ
 longest_side b = max (max (side_along (λ p. p.x) b) (side_along (λ p. p.y) b)) (side_along (λ p. p.z) b)
+
+-- a box may cover more than 9 cells of this side along an axis
+abbrev pub is_great : ℕ → BoundingBox → Bool
+is_great side b = nat_le side (longest_side b / MOST_SPLIT)
+
+-- the box is of the level
+abbrev pub has : Level → BoundingBox → Bool
+has level b = if level.great then is_great level.common b else not (is_great level.common b)
+
+-- the box at a position
+abbrev pub box_at : List BoundingBox → ℕ → BoundingBox
+box_at boxes i = slice_index_or boxes i (record { least = origin; greatest = origin })
+
+-- an entry for each cell of a box, where it is of the level
+abbrev pub entries_in : Level → BoundingBox → ℕ → List Entry
+entries_in level b item = if has level b then entries_of (cells_over level.side 0 b) item else []
+
+-- an entry for each cell of each box of the level
+abbrev pub entries_of_boxes : Level → List BoundingBox → List Entry
+entries_of_boxes level boxes =
+    flat_map (λ i. entries_in level (box_at boxes i) i) (range_with_len 0 (length boxes))
+
+-- the entries of a level's boxes by keys
+pub record IsLevel (level : Level) (boxes : List BoundingBox) (entries : List Entry) : Type 0 where
+  pub coarse : LEAST_SIDE ≤ level.side
+  pub sorted : IsNonDecreasingBy (λ (e : Entry). e.key) entries
+  pub entered : IsPermutation (entries_of_boxes level boxes) entries
+
+abbrev pub level_of : Bool → ℕ → ℕ → Level
+level_of great common side = record { great = great; common = common; side = side }
+
+-- boxes in the box of places; the great ones are entered in cells of their own side, the others in those of the first
+pub record IsGrid (boxes : List BoundingBox) (side : ℕ) (entries : List Entry) (great_side : ℕ)
+    (great_entries : List Entry) : Type 0 where
+  pub few : length boxes < 2 ^ 32
+  pub in_box : All LiesInTheBox boxes
+  pub common : IsLevel (level_of false side side) boxes entries
+  pub great : IsLevel (level_of true side great_side) boxes great_entries
+
+-- Items that were there, those of the entries in the first so many rows of these cells, and perhaps others of the
+-- entries.
+pub record HasRows (entries : List Entry) (c : Cells) (rows : ℕ) (old found : List ℕ) : Type 0 where
+  pub kept : (x : ℕ) → Contains old x → Contains found x
+  pub has : (r : ℕ) (e : Entry) → r < rows → Contains entries e → row_of c r ≤ e.key →
+      e.key < row_of c r + c.height → Contains found e.item
+  pub only : (n : ℕ) → All (λ (e : Entry). e.item < n) entries → All (λ i. i < n) old →
+      All (λ i. i < n) found
+
+-- the items of the entries in all rows
+abbrev pub HasAllRows : List Entry → Cells → List ℕ → List ℕ → Type 0
+HasAllRows entries c old found = HasRows entries c (c.width * c.depth) old found
