@@ -1,7 +1,8 @@
 -- The logarithm to base 2 with 24 bits behind the point, by squaring.
 use Rattle.std.specs.Prelude.{ℕ, zero, suc, ◌+◌, ◌-◌, ◌*◌, ◌/◌, ◌^◌, true, false, nat_le, if◌then◌else◌, ℤ, pos, ◌-ℤ◌, ◌*ℤ◌}
 use Rattle.std.specs.Int.{leading_zeros, w128, int_div_euclid}
-use Rattle.fixed_log.specs.declared.logarithm.TheConstants.{LN_2}
+use Rattle.whole_laws.specs.Ranges.{IsFrom}
+use Rattle.fixed_log.specs.declared.logarithm.TheConstants.{ARGUMENT_BITS, LN_2}
 
 -- What n bits add, the first of them worth 2 ^ (n - 1). y stands for y / 2 ^ 61, a number from 1 below 2; it is squared, and
 -- where its square is 2 or more the bit counts and the square is halved.
@@ -22,6 +23,10 @@ mantissa m k = if nat_le k 61 then m * 2 ^ (61 - k) else m / 2 ^ (k - 61)
 -- the logarithm of m times 2 ^ 24
 unfoldable pub lg_of : ℕ → ℕ
 lg_of m = whole_lg m * 2 ^ 24 + lg_bits 24 (mantissa m (whole_lg m))
+
+-- a number that may be the logarithm of an argument
+abbrev pub IsLogarithm : ℤ → Type 0
+IsLogarithm = IsFrom (pos 0) (pos (ARGUMENT_BITS * 2 ^ 24))
 
 -- the natural logarithm of a / b times 2 ^ 24, where ln 2 is LN_2 / 2 ^ 32, rounded down
 unfoldable pub ln_ratio_of : ℕ → ℕ → ℤ

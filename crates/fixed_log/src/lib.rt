@@ -9,5 +9,5 @@ mod logarithm;
 mod root;
 
 pub use laws::{highest_bit_counts, root_is_greatest};
-pub use logarithm::{ARGUMENT_BITS, LN_2, lg, ln_ratio};
+pub use logarithm::{ARGUMENT_BITS, LN_2, lg, ln_over, ln_ratio};
 pub use root::isqrt;

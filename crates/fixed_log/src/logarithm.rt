@@ -1,9 +1,7 @@
 //! The logarithm.
 ghost use Rattle.std.specs.Prelude.{◌≡◌, ℕ, ◌+◌, ◌-◌, ◌*◌, ◌/◌, ◌^◌, ◌<◌, ◌≤◌, pos, ◌≤ℤ◌, unsigned_abs};
 ghost use Rattle.fixed_log.specs.declared.logarithm.TheConstants.{ARGUMENT_BITS};
-ghost use Rattle.fixed_log.specs.Logarithm.{lg_bits, whole_lg, mantissa, lg_of, great_power, ln_ratio_of};
-
-use num_q::Q;
+ghost use Rattle.fixed_log.specs.Logarithm.{lg_bits, whole_lg, mantissa, lg_of, great_power, ln_ratio_of, IsLogarithm};
 
 /// The bits of an argument at most. Energies take logarithms of volumes, below 2^54, and of squared distances, below
 /// 2^51.
@@ -14,7 +12,6 @@ pub const LN_2: i64 = 2_977_044_471;
 
 /// The natural logarithm of `a` / `b`, with 24 bits behind the point, for both from 1 below 2^68: the difference of
 /// their logarithms to base 2 times that of 2, which is `LN_2` / 2^32, rounded down.
-#[tactic(auto, unfolding(crate::specs::Logarithm::ln_ratio_of))]
 pub fn ln_ratio(a: u128, b: u128) -> i64
     requires a_low { 1 ≤ a }
     requires a_high { a < 2 ^ ARGUMENT_BITS }
@@ -24,7 +21,19 @@ pub fn ln_ratio(a: u128, b: u128) -> i64
     ensures not_above_zero { a ≤ b → result ≤ℤ pos 0 }
     ensures small { unsigned_abs result < 2 ^ 30 }
 {
-    ((lg(a) - lg(b)) * LN_2) >> 32
+    ln_over(a, lg(b))
+}
+
+/// The same, for a `b` whose logarithm to base 2 is known, as [`lg`] gives it.
+#[tactic(auto, unfolding(crate::specs::Logarithm::ln_ratio_of))]
+pub fn ln_over(a: u128, lg_b: i64) -> i64
+    requires a_low { 1 ≤ a }
+    requires a_high { a < 2 ^ ARGUMENT_BITS }
+    requires b { IsLogarithm lg_b }
+    ensures value { (b : ℕ) → lg_b ≡ pos (lg_of b) → result ≡ ln_ratio_of a b }
+    ensures small { unsigned_abs result < 2 ^ 30 }
+{
+    ((lg(a) - lg_b) * LN_2) >> 32
 }
 
 /// The logarithm of `m` to base 2, with 24 bits behind the point, for `m` from 1 below 2^68.
@@ -80,12 +89,9 @@ fn bits_behind(mantissa: u64) -> u64
     let mut bits = 0u64;
     for turn in 0..24u32 {
         let z = square(y);
-        if (1 << 62) <= z {
-            bits += 1u64 << (23 - turn);
-            y = z / 2;
-        } else {
-            y = z;
-        }
+        let bit = z >> 62;
+        bits += bit << (23 - turn);
+        y = z >> bit;
     }
     bits
 }
@@ -96,8 +102,5 @@ fn square(y: u64) -> u64
     ensures value { result ≡ y * y / 2 ^ 61 }
     ensures below { result < 2 ^ 63 }
 {
-    let y: Q<61, 62> = Q::of_raw(y as i128);
-    let square: Q<122, 124> = y.mul_into(y);
-    let rounded: Q<61, 124> = square.rescale_into();
-    rounded.raw as u64
+    (((y * 4) as u128 * (y * 2) as u128) >> 64) as u64
 }

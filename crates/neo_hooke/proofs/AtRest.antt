@@ -1,5 +1,5 @@
 -- A tetrahedron that stands as it rests.
-use Rattle.std.proofs.Common.{◌≡◌, ◌∙◌, ◌*◌, ◌^◌, ◌<◌, ◌≤◌, ℕ, ℤ, pos, ◌+ℤ◌, ◌-ℤ◌, ◌*ℤ◌, neg_ℤ, ◌<ℤ◌, ◌≤ℤ◌, unsigned_abs, List, [], ◌∷◌, ap, sym, arith}
+use Rattle.std.proofs.Common.{◌≡◌, ◌∙◌, ◌^◌, ◌<◌, ℕ, ℤ, pos, ◌+ℤ◌, ◌-ℤ◌, ◌*ℤ◌, neg_ℤ, ◌<ℤ◌, ◌≤ℤ◌, unsigned_abs, List, [], ◌∷◌, ap, arith}
 use Rattle.std.proofs.lemmas.Int.{ints}
 use Rattle.fixed_log.specs.declared.logarithm.TheConstants.{LN_2}
 use Rattle.fixed_log.specs.Logarithm.{lg_of, ln_ratio_of}
@@ -9,7 +9,7 @@ use Rattle.num_q.specs.Rounding.{cut_of, floor_of}
 use Rattle.num_q.proofs.Bounds.{cut_same}
 use Rattle.space3.specs.declared.vectors.V3.{V3}
 use Rattle.space3.specs.Vectors.{origin, vector}
-use Rattle.vec_q.specs.Matrices.{M3, columns, adjugate, cofactors, determinant_of, product_of, sum_of_squares, transposed, unit_times}
+use Rattle.vec_q.specs.Matrices.{M3, columns, adjugate, cofactors, determinant_of, product_of, sum_of_squares, unit_times}
 use Rattle.vec_q.proofs.Adjugates.{product-adjugate}
 use Rattle.vec_q.proofs.Associative.{product-product}
 use Rattle.neo_hooke.specs.Energy.{elastic_energy, shear_energy, stretch_energy, volume_energy}

@@ -1,4 +1,5 @@
 pub mod AtRest
+pub mod Diagonals
 pub mod Shifts
 pub mod Symmetry
 pub mod Worked

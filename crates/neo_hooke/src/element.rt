@@ -1,5 +1,7 @@
 //! A tetrahedron with its material, made ready for many calls.
-ghost use Rattle.std.specs.Prelude.{◌≡◌, ◌^◌, ◌<◌, pos, ◌<ℤ◌, unsigned_abs};
+ghost use Rattle.std.specs.Prelude.{◌≡◌, ◌^◌, ◌≤◌, ◌<◌, pos, ◌<ℤ◌, unsigned_abs};
+ghost use Rattle.fixed_log.specs.Logarithm.{IsLogarithm, lg_of, ln_ratio_of};
+ghost use Rattle.num_q.specs.Rounding.{floor_of};
 ghost use Rattle.space3.specs.Vectors.{AtMost, Within};
 ghost use Rattle.vec_q.specs.Raws.{raws, raw_columns};
 ghost use Rattle.vec_q.specs.Rows.{matrix_of, vector_of};
@@ -7,7 +9,8 @@ ghost use Rattle.vec_q.specs.Widths.{AreWithin};
 ghost use Rattle.neo_hooke.specs.Rest.{IsModulus, IsRestShape, shape_of};
 
 use crate::rest::RestTet;
-use num_q::Q;
+use fixed_log::{lg, ln_over};
+use num_q::{Divisor, Q};
 use vec_q::{MatQ, VecQ};
 
 /// A tetrahedron at rest with the moduli of its material, as numbers of fixed point.
@@ -19,8 +22,14 @@ pub struct Element {
     pub adj: MatQ<0, 30>,
     pub mu: Q<0, 31>,
     pub lambda: Q<0, 31>,
+    // The same determinant, made ready to divide by, and its logarithm to base 2.
+    by: Divisor,
+    lg: i64,
     pub ghost positive: { pos 0 <ℤ r.raw },
     pub ghost short: { AreWithin (2 ^ 29) (raw_columns adj) },
+    ghost same: { pos by.number ≡ r.raw },
+    ghost known: { lg ≡ pos (lg_of (unsigned_abs r.raw)) },
+    ghost logarithm: { IsLogarithm lg },
 }
 
 impl Element {
@@ -35,12 +44,32 @@ impl Element {
         ensures mu { result.mu.raw ≡ mu }
         ensures lambda { result.lambda.raw ≡ lambda }
     {
+        let r = determinant(rest.r);
         Element {
-            r: determinant(rest.r),
+            r,
             adj: matrix(rest.adj),
             mu: modulus(mu),
             lambda: modulus(lambda),
+            by: divisor(r),
+            lg: logarithm(r),
         }
+    }
+
+    // A quotient by the determinant at rest, rounded down.
+    pub(crate) fn over_rest<const F: u32, const B: u32>(&self, a: Q<F, B>) -> Q<F, B>
+        ensures { result.raw ≡ floor_of a.entry.raw self.now.r.raw }
+    {
+        a.floor_by(self.by)
+    }
+
+    // The logarithm of a volume over that at rest.
+    pub(crate) fn log_over_rest(&self, volume: u128) -> i64
+        requires low { 1 ≤ volume }
+        requires high { volume < 2 ^ 54 }
+        ensures value { result ≡ ln_ratio_of volume (unsigned_abs self.now.r.raw) }
+        ensures small { unsigned_abs result < 2 ^ 30 }
+    {
+        ln_over(volume, self.lg)
     }
 }
 
@@ -49,6 +78,21 @@ fn determinant(r: i128) -> Q<0, 45>
     ensures { result.raw ≡ r }
 {
     Q::of_raw(r)
+}
+
+fn divisor(r: Q<0, 45>) -> Divisor
+    requires { pos 0 <ℤ r.raw }
+    ensures { pos result.number ≡ r.raw }
+{
+    Divisor::of(r.raw() as u64)
+}
+
+fn logarithm(r: Q<0, 45>) -> i64
+    requires { pos 0 <ℤ r.raw }
+    ensures value { result ≡ pos (lg_of (unsigned_abs r.raw)) }
+    ensures range { IsLogarithm result }
+{
+    lg(r.raw() as u128)
 }
 
 fn matrix(rows: [[i64; 3]; 3]) -> MatQ<0, 30>

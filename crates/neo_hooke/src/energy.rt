@@ -11,7 +11,7 @@ ghost use Rattle.neo_hooke.specs.Rest.{CanStand, IsModulus, IsRestShape, shape_o
 
 use crate::element::Element;
 use crate::rest::RestTet;
-use crate::strain::{determinant, edges_of, log_volume, squared_strain};
+use crate::strain::{determinant, edges_of, squared_strain};
 use num_q::Q;
 use space3::V3;
 use vec_q::MatQ;
@@ -46,27 +46,26 @@ impl Element {
         ensures { result.raw ≡
             energy_of (shape_in self.now) self.now.mu.raw self.now.lambda.raw (raw_columns edges) }
     {
-        let log = log_volume(determinant(edges), self.r);
+        let log = self.log_volume(determinant(edges));
         cut_sum(
-            stretch_energy(self.mu, self.r, squared_strain(edges, self.adj)),
+            self.stretch_energy(squared_strain(edges, self.adj)),
             shear_energy(self.mu, self.r, log),
             volume_energy(self.lambda, self.r, log),
         )
     }
-}
 
-fn stretch_energy(mu: Q<0, 31>, r: Q<0, 45>, squares: Q<0, 98>) -> Q<0, 105>
-    requires { pos 0 <ℤ r.raw }
-    ensures { result.raw ≡ stretch_energy mu.raw r.raw squares.raw }
-{
-    let three: Q<0, 2> = Q::of_raw(3);
-    let square: Q<0, 90> = r.mul_into(r);
-    let unstretched: Q<0, 92> = three.mul_into(square);
-    let more: Q<0, 99> = squares.sub_into(unstretched);
-    let stretch: Q<24, 123> = more.div_floor_into::<24, 0, 45, 24, 123>(r);
-    let cut: Q<24, 95> = stretch.cut_into();
-    let exact: Q<24, 126> = mu.mul_into(cut);
-    exact.shifted_into::<22, 0, 105>()
+    fn stretch_energy(&self, squares: Q<0, 98>) -> Q<0, 105>
+        ensures { result.raw ≡ stretch_energy self.now.mu.raw self.now.r.raw squares.raw }
+    {
+        let three: Q<0, 2> = Q::of_raw(3);
+        let square: Q<0, 90> = self.r.mul_into(self.r);
+        let unstretched: Q<0, 92> = three.mul_into(square);
+        let more: Q<0, 99> = squares.sub_into(unstretched);
+        let scaled: Q<24, 123> = more.rescale_into();
+        let cut: Q<24, 95> = self.over_rest(scaled).cut_into();
+        let exact: Q<24, 126> = self.mu.mul_into(cut);
+        exact.shifted_into::<22, 0, 105>()
+    }
 }
 
 fn shear_energy(mu: Q<0, 31>, r: Q<0, 45>, log: Q<24, 30>) -> Q<0, 105>

@@ -10,7 +10,7 @@ ghost use Rattle.neo_hooke.specs.Rest.{CanStand, IsModulus, IsRestShape, shape_o
 
 use crate::element::Element;
 use crate::rest::RestTet;
-use crate::strain::{determinant, edges_of, log_volume, strain_gradient};
+use crate::strain::{determinant, edges_of, strain_gradient};
 use num_q::Q;
 use space3::V3;
 use vec_q::{MatQ, VecQ};
@@ -48,15 +48,53 @@ impl Element {
             pulls_of (shape_in self.now) self.now.mu.raw self.now.lambda.raw (raw_columns edges) }
     {
         let volume = determinant(edges);
-        let log = log_volume(volume, self.r);
+        let log = self.log_volume(volume);
         let outward = pressure(self.mu, self.lambda, self.r, log, volume);
         let strain = strain_gradient(edges, self.adj);
         let across: MatQ<0, 35> = edges.cofactors_into();
         MatQ {
-            first: elastic_pulls(self.mu, self.r, outward, strain.first, across.first),
-            second: elastic_pulls(self.mu, self.r, outward, strain.second, across.second),
-            third: elastic_pulls(self.mu, self.r, outward, strain.third, across.third),
+            first: self.elastic_pulls(outward, strain.first, across.first),
+            second: self.elastic_pulls(outward, strain.second, across.second),
+            third: self.elastic_pulls(outward, strain.third, across.third),
         }
+    }
+
+    fn elastic_pulls(
+        &self,
+        pressure: Q<24, 90>,
+        strain: VecQ<0, 81>,
+        cofactor: VecQ<0, 35>,
+    ) -> VecQ<0, 90>
+        ensures { raws result ≡ elastic_pulls self.now.mu.raw self.now.r.raw pressure.raw
+            (raws strain) (raws cofactor) }
+    {
+        VecQ {
+            x: self.elastic_pull(pressure, strain.x, cofactor.x),
+            y: self.elastic_pull(pressure, strain.y, cofactor.y),
+            z: self.elastic_pull(pressure, strain.z, cofactor.z),
+        }
+    }
+
+    fn elastic_pull(&self, pressure: Q<24, 90>, strain: Q<0, 81>, cofactor: Q<0, 35>) -> Q<0, 90>
+        ensures { result.raw ≡ elastic_pull self.now.mu.raw self.now.r.raw pressure.raw
+            strain.raw cofactor.raw }
+    {
+        let stretch = self.stretch_pull(strain);
+        let exact: Q<24, 125> = pressure.mul_into(cofactor);
+        let volume: Q<0, 116> = exact.shifted_into::<21, 0, 116>();
+        let sum: Q<0, 117> = stretch.add_into(volume);
+        sum.cut_into()
+    }
+
+    // 8 mu times a component, over the determinant at rest, rounded down.
+    pub(crate) fn stretch_pull(&self, strain: Q<0, 81>) -> Q<0, 116>
+        ensures { result.raw ≡
+            floor_of (pos 8 *ℤ self.now.mu.raw *ℤ strain.raw) self.now.r.raw }
+    {
+        let eight: Q<0, 4> = Q::of_raw(8);
+        let stiffness: Q<0, 35> = eight.mul_into(self.mu);
+        let exact: Q<0, 116> = stiffness.mul_into(strain);
+        self.over_rest(exact)
     }
 }
 
@@ -76,51 +114,6 @@ fn pressure(
     let exact: Q<24, 107> = both.mul_into(r);
     let floor: Q<24, 107> = exact.div_floor_into::<0, 0, 54, 24, 107>(volume);
     floor.cut_into()
-}
-
-fn elastic_pulls(
-    mu: Q<0, 31>,
-    r: Q<0, 45>,
-    pressure: Q<24, 90>,
-    strain: VecQ<0, 81>,
-    cofactor: VecQ<0, 35>,
-) -> VecQ<0, 90>
-    requires { pos 0 <ℤ r.raw }
-    ensures { raws result ≡ elastic_pulls mu.raw r.raw pressure.raw (raws strain) (raws cofactor) }
-{
-    VecQ {
-        x: elastic_pull(mu, r, pressure, strain.x, cofactor.x),
-        y: elastic_pull(mu, r, pressure, strain.y, cofactor.y),
-        z: elastic_pull(mu, r, pressure, strain.z, cofactor.z),
-    }
-}
-
-fn elastic_pull(
-    mu: Q<0, 31>,
-    r: Q<0, 45>,
-    pressure: Q<24, 90>,
-    strain: Q<0, 81>,
-    cofactor: Q<0, 35>,
-) -> Q<0, 90>
-    requires { pos 0 <ℤ r.raw }
-    ensures { result.raw ≡ elastic_pull mu.raw r.raw pressure.raw strain.raw cofactor.raw }
-{
-    let stretch = stretch_pull(mu, r, strain);
-    let exact: Q<24, 125> = pressure.mul_into(cofactor);
-    let volume: Q<0, 116> = exact.shifted_into::<21, 0, 116>();
-    let sum: Q<0, 117> = stretch.add_into(volume);
-    sum.cut_into()
-}
-
-// 8 mu times a component, over the determinant at rest, rounded down.
-pub(crate) fn stretch_pull(mu: Q<0, 31>, r: Q<0, 45>, strain: Q<0, 81>) -> Q<0, 116>
-    requires { pos 0 <ℤ r.raw }
-    ensures { result.raw ≡ floor_of (pos 8 *ℤ mu.raw *ℤ strain.raw) r.raw }
-{
-    let eight: Q<0, 4> = Q::of_raw(8);
-    let stiffness: Q<0, 35> = eight.mul_into(mu);
-    let exact: Q<0, 116> = stiffness.mul_into(strain);
-    exact.div_floor_into::<0, 0, 45, 0, 116>(r)
 }
 
 // Minus the sum of three numbers, cut.

@@ -7,7 +7,7 @@ ghost use Rattle.vec_q.specs.Widths.{AreBelow, AreWithin};
 ghost use Rattle.volume_cert.specs.declared.edges.TheConstants.{LONGEST_EDGE};
 ghost use Rattle.neo_hooke.specs.Rest.{edge_matrix};
 
-use fixed_log::ln_ratio;
+use crate::element::Element;
 use num_q::Q;
 use space3::V3;
 use vec_q::{MatQ, VecQ, edge_between};
@@ -59,14 +59,15 @@ pub(crate) fn strain_gradient(edges: MatQ<0, 17>, adj: MatQ<0, 30>) -> MatQ<0, 8
     edges.mul_into(squares)
 }
 
-// The logarithm of a volume over that at rest.
-pub(crate) fn log_volume(volume: Q<0, 54>, r: Q<0, 45>) -> Q<24, 30>
-    requires volume { pos 0 <ℤ volume.raw }
-    requires r { pos 0 <ℤ r.raw }
-    ensures { result.raw ≡ ln_ratio_of (unsigned_abs volume.raw) (unsigned_abs r.raw) }
-{
-    let wide: Q<0, 54> = r.widened_into();
-    Q::of_raw(ln_ratio(positive(volume), positive(wide)) as i128)
+impl Element {
+    // The logarithm of a volume over that at rest.
+    pub(crate) fn log_volume(&self, volume: Q<0, 54>) -> Q<24, 30>
+        requires { pos 0 <ℤ volume.raw }
+        ensures { result.raw ≡
+            ln_ratio_of (unsigned_abs volume.raw) (unsigned_abs self.now.r.raw) }
+    {
+        Q::of_raw(self.log_over_rest(positive(volume)) as i128)
+    }
 }
 
 // A number above 0, as the logarithm takes it.

@@ -69,14 +69,27 @@ pub scaled_fine : (a : ℤ) (m s k : ℕ) → unsigned_abs a < 2 ^ m → m + s �
 scaled_fine a m s k h i l =
     fine _ _ k (λ t. back-is a m h (omega arith) t *ℤ one_shifted s (omega arith) t) (scaled_below a m s k h i) l
 
--- a product of factors that were cut to 64 bits
-kept : (x a : ℤ) (m : ℕ) → x ≡ a → unsigned_abs a < 2 ^ m → m ≤ 63 → to_z w64 (of_z w64 x) ≡ a
+-- a number that was cut to 64 bits
+pub kept : (x a : ℤ) (m : ℕ) → x ≡ a → unsigned_abs a < 2 ^ m → m ≤ 63 → to_z w64 (of_z w64 x) ≡ a
 kept x a m e h l = ap (λ (z : ℤ). to_z w64 (of_z w64 z)) e ∙ to_z-of_z w64 a (fits_signed_from_abs w64 a (omega (arith, pow_mono {i = m} {j = 63} l)))
 
 pub short_fine : (p x y a b : ℤ) (m n k : ℕ) → p ≡ to_z w64 (of_z w64 x) *ℤ to_z w64 (of_z w64 y) → x ≡ a → y ≡ b →
     unsigned_abs a < 2 ^ m → unsigned_abs b < 2 ^ n → m ≤ 63 → n ≤ 63 → m + n ≤ k → k ≤ 126 → Fine p (a *ℤ b) k
 short_fine p x y a b m n k e u v h q i j s l =
     fine p (a *ℤ b) k (e ∙ (λ t. kept x a m u h i t *ℤ kept y b n v q j t)) (prod_below a b m n k h q s) l
+
+pub narrow_below : (x y a b : ℤ) (m n : ℕ) → x ≡ a → y ≡ b → unsigned_abs a < 2 ^ m → unsigned_abs b < 2 ^ n → m + n ≤ 63 → unsigned_abs (to_z w64 (of_z w64 x) *ℤ to_z w64 (of_z w64 y)) < 2 ^ 63
+narrow_below x y a b m n u v h q s = rw (kept x a m u h (omega arith), kept y b n v q (omega arith)) (prod_below a b m n 63 h q s)
+
+pub narrow_fine : (p x y a b : ℤ) (m n k : ℕ) → p ≡ to_z w64 (of_z w64 x) *ℤ to_z w64 (of_z w64 y) → x ≡ a → y ≡ b →
+    unsigned_abs a < 2 ^ m → unsigned_abs b < 2 ^ n → m + n ≤ 63 → m + n ≤ k → k ≤ 126 → Fine (to_z w64 (of_z w64 p)) (a *ℤ b) k
+narrow_fine p x y a b m n k e u v h q i s l =
+    let product : p ≡ a *ℤ b = e ∙ (λ t. kept x a m u h (omega arith) t *ℤ kept y b n v q (omega arith) t) in
+    fine _ (a *ℤ b) k (kept p (a *ℤ b) (m + n) product (prod_below a b m n (m + n) h q (le_refl (m + n))) i) (prod_below a b m n k h q s) l
+
+-- a number of any width is below 2 ^ 126
+pub within_all : (a : ℤ) (m : ℕ) → unsigned_abs a < 2 ^ m → m ≤ 126 → unsigned_abs (back a) < 2 ^ 126
+within_all a m h l = rw (back-is a m h l) (omega (arith, pow_mono {i = m} {j = 126} l))
 
 size_neg : (a : ℤ) → unsigned_abs (pos 0 -ℤ a) ≡ unsigned_abs a
 size_neg a = omega (arith, ints)

@@ -1,15 +1,15 @@
 -- Quotients below a power of two, and the nearest one.
-use Rattle.std.proofs.Common.{◌≡◌, ℕ, zero, suc, ◌+◌, ◌*◌, ◌/◌, ◌%◌, ◌≤◌, ◌<◌, ◌^◌, ℤ, pos, negsuc, ◌*ℤ◌, ◌<ℤ◌, unsigned_abs, sym, ◌∙◌, ap, subst, arith, to_z, min, inl, inr}
+use Rattle.std.proofs.Common.{◌≡◌, ℕ, zero, suc, ◌+◌, ◌*◌, ◌/◌, ◌%◌, ◌≤◌, ◌<◌, ◌^◌, ℤ, pos, negsuc, ◌*ℤ◌, ◌<ℤ◌, unsigned_abs, sym, ◌∙◌, ap, subst, arith, to_z, of_z, FitsSigned, lit≤, min, inl, inr}
 use Rattle.std.proofs.Math.Pow.{pow_mono}
 use Rattle.std.proofs.Math.Nat.{div-eq_of_lt, div-lt_iff_lt-mul}
 use Rattle.std.proofs.lemmas.Nat.{pow-add, pow_pos}
-use Rattle.std.proofs.lemmas.Int.{ints}
+use Rattle.std.proofs.lemmas.Int.{ints, fits_signed_from_abs}
 use Rattle.std.proofs.lemmas.Bool.{cases_lt}
-use Rattle.std.specs.Int.{w128, int_shr, int_div_euclid}
+use Rattle.std.specs.Int.{w64, w128, int_shr, int_div_euclid}
 use lib.Signed.{mag}
 use Rattle.whole_laws.proofs.Floors.{shr-is, floor_size}
 use Rattle.num_q.specs.Rounding.{floor_of}
-use Rattle.num_q.proofs.Bounds.{Fine, back, back-is, fine, scaled_below, scaled_fine}
+use Rattle.num_q.proofs.Bounds.{Fine, back, back-is, fine, kept, scaled_below, scaled_fine}
 
 -- ---- a shift to the right
 pub shr_fine : (a : ℤ) (m n s : ℕ) → unsigned_abs a < 2 ^ m → m ≤ n → n ≤ 126 → Fine (int_shr (back a) s) (int_shr a s) n
@@ -25,6 +25,22 @@ floor_fine a d q m n s k h hd nn p i l e =
     let f = scaled_fine a m s k h i l in
     let w : unsigned_abs (int_div_euclid (a *ℤ pos (2 ^ s)) d) < 2 ^ k = omega (arith, floor_size (a *ℤ pos (2 ^ s)) d p, scaled_below a m s k h i) in
     fine q _ k (e ∙ (λ t. int_div_euclid (f.same t) (back-is d n hd nn t))) w l
+
+-- the same within 64 bits
+pub short_scaled_fits : (a : ℤ) (m s : ℕ) → unsigned_abs a < 2 ^ m → m + s ≤ 63 → FitsSigned w64 (back (back a *ℤ to_z w128 (1 * 2 ^ s % 2 ^ 128)))
+short_scaled_fits a m s h i =
+    let same = (scaled_fine a m s 63 h i (lit≤ tt)).same in
+    subst (FitsSigned w64) (sym same) (fits_signed_from_abs w64 (a *ℤ pos (2 ^ s)) (scaled_below a m s 63 h i))
+
+pub short_floor_fine : (a d y q : ℤ) (m n s k : ℕ) → unsigned_abs a < 2 ^ m → unsigned_abs d < 2 ^ n → m + s ≤ 63 → n ≤ 63 → pos 0 <ℤ d → m + s ≤ k → k ≤ 126 → y ≡ d →
+    q ≡ floor_of (to_z w64 (of_z w64 (back (back a *ℤ to_z w128 (1 * 2 ^ s % 2 ^ 128))))) (to_z w64 (of_z w64 y)) → Fine (to_z w64 (of_z w64 q)) (floor_of (a *ℤ pos (2 ^ s)) d) k
+short_floor_fine a d y q m n s k h hd i j p r l u e =
+    let z = a *ℤ pos (2 ^ s) in
+    let small : unsigned_abs z < 2 ^ 63 = scaled_below a m s 63 h i in
+    let top = kept _ z 63 (scaled_fine a m s 63 h i (lit≤ tt)).same small (lit≤ tt) in
+    let quotient : q ≡ floor_of z d = e ∙ (λ t. floor_of (top t) (kept y d n u hd j t)) in
+    let size = floor_size z d p in
+    fine _ (floor_of z d) k (kept q (floor_of z d) 63 quotient (omega (arith, size, small)) (lit≤ tt)) (omega (arith, size, scaled_below a m s k h r)) l
 
 -- a shift by more than 127 places is one by 127
 far : (a n : ℕ) → a < 2 ^ 127 → 127 ≤ n → a / 2 ^ n ≡ a / 2 ^ 127

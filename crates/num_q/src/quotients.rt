@@ -2,6 +2,7 @@
 ghost use Rattle.std.specs.Prelude.{◌≡◌, ◌^◌, ◌≤◌, ◌<◌, ◌+◌, ◌-◌, pos, ◌*ℤ◌, ◌<ℤ◌};
 ghost use Rattle.num_q.specs.Rounding.{floor_of, round_of};
 
+use crate::divisors::Divisor;
 use crate::fixed::Q;
 
 impl<const F: u32, const B: u32> Q<F, B> {
@@ -16,9 +17,52 @@ impl<const F: u32, const B: u32> Q<F, B> {
         requires width { B3 ≤ 126 }
         ensures { result.raw ≡ floor_of (self.entry.raw *ℤ pos (2 ^ S)) other.entry.raw }
     {
+        if B + S <= 63 && B2 <= 63 {
+            self.div_short::<S, F2, B2, F3, B3>(other)
+        } else {
+            self.div_wide::<S, F2, B2, F3, B3>(other)
+        }
+    }
+
+    // The quotient of numbers within 64 bits.
+    fn div_short<const S: u32, const F2: u32, const B2: u32, const F3: u32, const B3: u32>(
+        self,
+        other: Q<F2, B2>,
+    ) -> Q<F3, B3>
+        requires positive { pos 0 <ℤ other.raw }
+        requires left { B + S ≤ 63 }
+        requires right { B2 ≤ 63 }
+        requires sum { B + S ≤ B3 }
+        requires width { B3 ≤ 126 }
+        ensures { result.raw ≡ floor_of (self.entry.raw *ℤ pos (2 ^ S)) other.entry.raw }
+    {
+        let scaled = self.raw * (1i128 << S);
+        Q {
+            raw: short_floor(scaled as i64, other.short()) as i128,
+        }
+    }
+
+    fn div_wide<const S: u32, const F2: u32, const B2: u32, const F3: u32, const B3: u32>(
+        self,
+        other: Q<F2, B2>,
+    ) -> Q<F3, B3>
+        requires positive { pos 0 <ℤ other.raw }
+        requires sum { B + S ≤ B3 }
+        requires width { B3 ≤ 126 }
+        ensures { result.raw ≡ floor_of (self.entry.raw *ℤ pos (2 ^ S)) other.entry.raw }
+    {
         let scaled = self.raw * (1i128 << S);
         Q {
             raw: scaled.div_euclid(other.raw),
+        }
+    }
+
+    /// The quotient by a divisor that is made ready, rounded down.
+    pub fn floor_by(self, divisor: Divisor) -> Self
+        ensures { result.raw ≡ floor_of self.entry.raw (pos divisor.number) }
+    {
+        Q {
+            raw: divisor.floor(self.raw),
         }
     }
 
@@ -88,4 +132,14 @@ impl<const F: u32, const B: u32> Q<F, B> {
     {
         Q { raw: self.raw >> K }
     }
+}
+
+// The quotient rounded down. The signs are dealt with apart, so that nothing waits for a guess of them.
+fn short_floor(a: i64, d: i64) -> i64
+    requires { pos 0 <ℤ d }
+    ensures { result ≡ floor_of a d }
+{
+    let folded = if a < 0 { -1 - a } else { a };
+    let quotient = (folded as u64 / d as u64) as i64;
+    if a < 0 { -1 - quotient } else { quotient }
 }

@@ -48,6 +48,10 @@ unit_times k = columns
     (vector (pos 0) k (pos 0))
     (vector (pos 0) (pos 0) k)
 
+-- the entries on the diagonal
+abbrev pub diagonal_of : M3 → V3
+diagonal_of m = vector m.first.x m.second.y m.third.z
+
 -- the determinant: the triple product of the columns
 abbrev pub determinant_of : M3 → ℤ
 determinant_of m = determinant m.first m.second m.third

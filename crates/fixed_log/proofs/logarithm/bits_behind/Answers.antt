@@ -1,30 +1,17 @@
-use Rattle.std.proofs.Common.{◌≡◌, ◌+◌, ◌-◌, ◌^◌, ap, ◌∙◌, arith}
+use Rattle.std.proofs.Common.{◌≡◌, ◌-◌, refl, ap, ◌∙◌, arith}
 use Rattle.fixed_log.specs.Logarithm.{lg_bits}
-use Rattle.fixed_log.proofs.Bits.{lg_bits-zero, turn-high, turn-low, shifted_bit, bit_at_most}
+use Rattle.fixed_log.proofs.Bits.{lg_bits-zero, turn, turn_below}
 use Rattle.fixed_log.proofs.Monotone.{lg_bits-lt}
 use Rattle.fixed_log.proofs.logarithm.bits_behind.Goals as goal
-use Rattle.fixed_log.proofs.logarithm.bits_behind.Goals.{then-z, else-z}
 
 pub overflow_add-bits : goal.overflow_add-bits
 overflow_add-bits c =
-    let t = c.loop-turn.turn in
-    omega (arith, c.loop-turn.invariant.together, lg_bits-lt 24 c.args.mantissa, shifted_bit t c.loop-turn-test.true, bit_at_most t)
+    omega (arith, c.loop-turn.invariant.together, lg_bits-lt 24 c.args.mantissa, turn c.loop-turn.turn c.loop-turn.y c.square-z.result _ c.loop-turn-test.true c.square-z.ensures.value c.square-z.ensures.below refl)
 
 pub loop-turn-preserved : goal.loop-turn-preserved
 loop-turn-preserved c =
-    let t = c.loop-turn.turn in
-    let y = c.loop-turn.y in
-    let z = c.square-z.result in
-    let so_far = c.loop-turn.invariant.together in
-    elim c.if-z.branch [
-      | then-z w ↦
-          let bit : c.if-z.bits ≡ c.loop-turn.bits + 2 ^ (23 - t) = w.bits-is ∙ ap (λ b. c.loop-turn.bits + b) (shifted_bit t c.loop-turn-test.true) in
-          let turn = turn-high t y z c.loop-turn-test.true c.square-z.ensures.value w.if-z.true in
-          record { together = rw w.y-is (omega (arith, bit, turn, so_far)); below = omega (arith, w.y-is, c.square-z.ensures.below) }
-      | else-z w ↦
-          let turn = turn-low t y z c.loop-turn-test.true c.square-z.ensures.value w.if-z.false in
-          record { together = rw (w.y-is, w.bits-is) (omega (arith, turn, so_far)); below = omega (arith, w.y-is, w.if-z.false) }
-    ]
+    let next = turn c.loop-turn.turn c.loop-turn.y c.square-z.result _ c.loop-turn-test.true c.square-z.ensures.value c.square-z.ensures.below refl in
+    record { together = omega (arith, next, c.loop-turn.invariant.together); below = turn_below c.square-z.result _ c.square-z.ensures.below refl }
 
 pub returns-clause-value : goal.returns-clause-value
 returns-clause-value c =
