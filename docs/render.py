@@ -2,7 +2,7 @@
 
 A frame is a mesh as `ipc` writes it. Of its tetrahedra the surface is drawn, coloured by physical tag, with its edges,
 by one view for all frames; what is above throws a shadow. Nothing but Python's standard library is needed.
-docs/landing.png was made from frames of crates/fall/data/land.toml, where they were written:
+docs/landing.png was made from frames of scenes/land.toml, where they were written:
     python3 docs/render.py docs/landing.png land_0000.msh land_0015.msh land_0030.msh
 """
 import math, struct, sys, zlib

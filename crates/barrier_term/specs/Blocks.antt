@@ -1,9 +1,10 @@
 -- The barrier's part of the matrix: a product of two vectors, times a number that is not negative.
-use Rattle.std.specs.Prelude.{ℕ, ◌^◌, ℤ, pos, ◌+ℤ◌, ◌*ℤ◌, neg_ℤ, List, slice_index_or}
+use Rattle.std.specs.Prelude.{ℕ, ◌^◌, ℤ, pos, ◌+ℤ◌, ◌*ℤ◌, neg_ℤ, List, [], ◌∷◌, map, slice_index_or}
 use Rattle.num_q.specs.Rounding.{floor_of, cut_of}
 use Rattle.space3.specs.declared.vectors.V3.{V3}
 use Rattle.space3.specs.Vectors.{vector}
 use Rattle.vec_q.specs.Matrices.{M3, columns}
+use Rattle.vec_q.specs.Rows.{rows_of}
 use Rattle.nearest.specs.SignedWeights.{signed_weights, signed_sum}
 use Rattle.near_pair.specs.declared.near.Near.{Near}
 use Rattle.barrier_term.specs.Barrier.{depth, steepness, if_active}
@@ -37,3 +38,14 @@ barrier_block kappa dhat near split points i j =
     let signed = signed_weights split near.weights in
     let lever_of = λ (k : ℕ). lever (signed_sum signed points) (slice_index_or signed k (pos 0)) in
     entries (if_active dhat near (stiffness_at kappa)) (lever_of i) (lever_of j)
+
+-- the blocks of a point with each, by their rows, from the stiffness, the way and the signed weights
+abbrev pub blocks_of : (stiffness : ℤ) (way : V3) (signed : List ℤ) (i : ℕ) → List (List (List ℤ))
+blocks_of stiffness way signed i =
+    let lever_of = λ (k : ℕ). lever way (slice_index_or signed k (pos 0)) in
+    map (λ j. rows_of (entries stiffness (lever_of i) (lever_of j))) (0 ∷ 1 ∷ 2 ∷ 3 ∷ [])
+
+-- the blocks of each two points, by their rows
+abbrev pub barrier_blocks : (kappa dhat : ℤ) (near : Near) (split : ℕ) (points : List V3) → List (List (List (List ℤ)))
+barrier_blocks kappa dhat near split points =
+    map (λ i. map (λ j. rows_of (barrier_block kappa dhat near split points i j)) (0 ∷ 1 ∷ 2 ∷ 3 ∷ [])) (0 ∷ 1 ∷ 2 ∷ 3 ∷ [])

@@ -41,7 +41,9 @@ pub fn active_pair(dhat: i64, near: &Near) -> Option<Active>
     }
 }
 
-fn reach_of(dhat: i64) -> u128
+/// The square of dhat, from 0 to 1024 grid units, with 8 fraction bits: pairs with a squared distance below it are
+/// active.
+pub fn reach_of(dhat: i64) -> u128
     requires { IsFrom (pos 0) (pos GAP_LIMIT) dhat }
     ensures value { result ≡ reach_of dhat }
     ensures near { result ≤ 2 ^ 28 }

@@ -56,7 +56,7 @@ fn stiffness_of(kappa: i64, dhat: i64, near: &Near) -> Q<24, 64>
     }
 }
 
-fn stiffness_at(kappa: i64, pair: Active) -> Q<24, 64>
+pub(crate) fn stiffness_at(kappa: i64, pair: Active) -> Q<24, 64>
     requires { IsFrom (pos 0) MOST_STIFFNESS kappa }
     ensures { result.raw ≡ stiffness_at kappa pair.distance pair.reach }
 {
@@ -80,7 +80,7 @@ fn curvature(pair: Active) -> Q<24, 84>
 }
 
 // The way between the nearest points, times a signed weight, with 12 fraction bits.
-fn lever(way: VecQ<16, 34>, signed: &[i64; 4], k: usize) -> VecQ<12, 31>
+pub(crate) fn lever(way: VecQ<16, 34>, signed: &[i64; 4], k: usize) -> VecQ<12, 31>
     requires each { All (AtMost ONE) signed.now }
     requires index { k < 4 }
     ensures { raws result ≡ lever (raws way) (slice_index_or signed.now k (pos 0)) }
@@ -102,7 +102,7 @@ fn lever_along(way: Q<16, 34>, weight: Q<16, 17>) -> Q<12, 31>
     small.shifted_into::<20, 12, 31>()
 }
 
-fn entries(stiffness: Q<24, 64>, a: VecQ<12, 31>, b: VecQ<12, 31>) -> MatQ<26, 86>
+pub(crate) fn entries(stiffness: Q<24, 64>, a: VecQ<12, 31>, b: VecQ<12, 31>) -> MatQ<26, 86>
     ensures { raw_columns result ≡ entries stiffness.raw (raws a) (raws b) }
 {
     MatQ {

@@ -4,12 +4,14 @@
 
 mod active;
 mod block;
+mod blocks;
 mod energy;
 mod gradient;
 mod laws;
 
-pub use active::MOST_STIFFNESS;
+pub use active::{MOST_STIFFNESS, reach_of};
 pub use block::barrier_block;
+pub use blocks::barrier_blocks;
 pub use energy::{barrier_energy, barrier_slope};
 pub use gradient::barrier_gradient;
 pub use laws::{

@@ -5,6 +5,7 @@ use Rattle.std.proofs.lemmas.List.{get_or-set_same, get_or-set_other, length-set
 use Rattle.std.proofs.lemmas.List.Elements.{All-set, All-weaker}
 use Rattle.vec_q.specs.Matrices.{M3}
 use Rattle.vec_q.specs.Widths.{AreBelow, AreWithin}
+use Rattle.block_rows.specs.declared.sums.TheConstants.{MOST_ADDED}
 use Rattle.block_rows.specs.Stored.{Entry, block_in, table_of}
 use Rattle.block_rows.specs.Tables.{sum_of_blocks, with_block}
 use Rattle.block_rows.specs.Calls.Entries.{IsRow, IsSmall, with_entry}
@@ -39,7 +40,7 @@ module _ (rows : List (List Entry)) (i j : ℕ) (block : M3) (there : i < length
   added_table row is = ap (λ (r : List Entry). table_of (set rows i r)) is ∙ (λ t. λ r k. in_place r k t)
 
 -- one block more, within the bounds
-pub added_sums : (rows : List (List Entry)) (added i j : ℕ) (block : M3) (row : List Entry) → AreSums rows added → added < 2 ^ 34 → i < length rows → j < length rows → AreBelow 86 block
+pub added_sums : (rows : List (List Entry)) (added i j : ℕ) (block : M3) (row : List Entry) → AreSums rows added → added < MOST_ADDED → i < length rows → j < length rows → AreBelow 86 block
     → row ≡ with_entry j block (get_or rows i []) → AreSums (set rows i row) (added + 1)
 added_sums rows added i j block row h room there column small is = record {
   square = record {

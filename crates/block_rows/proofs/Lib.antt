@@ -3,6 +3,7 @@ pub mod AddedTables
 pub mod Bounds
 pub mod EntrySums
 pub mod KeptTables
+pub mod Linear
 pub mod Placed
 pub mod RowProducts
 pub mod Threes

@@ -1,5 +1,5 @@
 -- Square tables of 3x3 blocks, with a row and a column of blocks for each node, and their products with vectors.
-use Rattle.std.specs.Prelude.{◌≡◌, ℕ, ◌==◌, ◌+◌, ◌*◌, ◌^◌, ◌<◌, length, All, unsigned_abs, ℤ, pos, Bool, false, ◌&&◌, ◌||◌, List, [], ◌∷◌, map, flat_map, slice_index_or, if◌then◌else◌}
+use Rattle.std.specs.Prelude.{◌≡◌, ℕ, ◌==◌, ◌+◌, ◌*◌, ◌^◌, ◌<◌, length, All, unsigned_abs, ℤ, pos, ◌+ℤ◌, ◌*ℤ◌, Bool, false, ◌&&◌, ◌||◌, List, [], ◌∷◌, map, zip, flat_map, slice_index_or, if◌then◌else◌}
 use Rattle.std.specs.List.{range_with_len}
 use Rattle.list_laws.specs.Sums.{total}
 use Rattle.num_q.specs.Rounding.{cut_of}
@@ -62,6 +62,14 @@ product_at nodes table p node =
 -- the product of a table with a vector, three numbers for each node
 abbrev pub product : (nodes : ℕ) → Table → List ℤ → List ℤ
 product nodes table p = flat_map (product_at nodes table p) (range_with_len 0 nodes)
+
+-- the sum of two vectors, number by number
+abbrev pub sum_by_number : List ℤ → List ℤ → List ℤ
+sum_by_number p q = map (λ pair. pair.0 +ℤ pair.1) (zip p q)
+
+-- a multiple of a vector, number by number
+abbrev pub multiple_by_number : ℤ → List ℤ → List ℤ
+multiple_by_number k p = map (λ number. k *ℤ number) p
 
 -- the diagonal of a block
 abbrev pub diagonal_of : M3 → V3

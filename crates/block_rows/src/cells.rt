@@ -78,8 +78,8 @@ impl WideRow {
     // Adds a block in its column. Where memory is wanting, the row stays.
     pub fn add(&mut self, column: u32, block: WideBlock) -> Result<(), AllocError>
         requires ascending { IsAscending self.old }
-        requires small { IsSmall (2 ^ 120) self.old }
-        requires block { AreWithin (2 ^ 120) (wide_matrix block) }
+        requires small { IsSmall (2 ^ 125) self.old }
+        requires block { AreWithin (2 ^ 125) (wide_matrix block) }
         ensures done { IfOk result (λ _.
             self.new ≡ with_entry column (wide_matrix block) self.old) }
         ensures kept { OnErr result (self.new ≡ self.old) }

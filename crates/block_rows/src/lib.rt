@@ -12,6 +12,6 @@ mod rows;
 mod sums;
 mod wide;
 
-pub use laws::products_of_two_nodes;
+pub use laws::{products_are_linear, products_of_two_nodes};
 pub use rows::Rows;
-pub use sums::Sums;
+pub use sums::{MOST_ADDED, Sums};

@@ -2,6 +2,7 @@
 ghost use Rattle.std.specs.Prelude.{◌≡◌, ◌^◌, ◌≤◌, ◌<◌, IfOk, OnErr, length, [], ◌+◌, replicate};
 ghost use Rattle.vec_q.specs.Rows.{matrix_of};
 ghost use Rattle.vec_q.specs.Widths.{AreBelow};
+ghost use Rattle.block_rows.specs.declared.sums.TheConstants.{MOST_ADDED};
 ghost use Rattle.block_rows.specs.Stored.{nodes_of, table_of};
 ghost use Rattle.block_rows.specs.Tables.{cut_table, with_block, zeros};
 
@@ -10,6 +11,9 @@ use crate::rows::Rows;
 use crate::wide::wide_block;
 use std::alloc::{AllocError, Global};
 use std::marker::Model;
+
+/// The most blocks that are added: with entries below 2^86, no sum is above 2^125 then.
+pub const MOST_ADDED: u64 = 1 << 39;
 
 /// Sums of blocks, with a row and a column for each node.
 #[derive(Drop)]
@@ -43,12 +47,12 @@ impl Sums {
     }
 
     /// Adds a block, given by its rows, in the row of node `i` and the column of node `j`. Its entries are below 2^86
-    /// in absolute value, and fewer than 2^34 blocks were added before. Where memory is wanting, the sums stay.
+    /// in absolute value, and fewer than [`MOST_ADDED`] blocks were added before. Where memory is wanting, the sums stay.
     pub fn add(&mut self, i: u32, j: u32, block: &[[i128; 3]; 3]) -> Result<(), AllocError>
         requires row { i < nodes_of self.old.rows }
         requires column { j < nodes_of self.old.rows }
         requires small { AreBelow 86 (matrix_of block.now) }
-        requires room { self.old.added < 2 ^ 34 }
+        requires room { self.old.added < MOST_ADDED }
         ensures nodes { IfOk result (λ _. nodes_of self.new.rows ≡ nodes_of self.old.rows) }
         ensures table { IfOk result (λ _. table_of self.new.rows ≡
             with_block i j (matrix_of block.now) (table_of self.old.rows)) }

@@ -1,5 +1,6 @@
 pub mod Ascending
 pub mod Corners
+pub mod EdgePairs
 pub mod GroupCuts
 pub mod Joining
 pub mod OneOutcome

@@ -1,17 +1,19 @@
 //! Decimals in a text and places on a grid: a decimal of any length is read exactly, without a big
 //! number and without memory, and a place on the grid is written as its shortest decimal.
 //!
-//! - `reading`, `writing`: the two calls. `laws`: what their definitions say together.
+//! - `reading`, `writing`: the two calls on the grid. `laws`: what their definitions say together. `numbers`: whole numbers.
 //! - `parts`: a text as the parts of a decimal. `quotient`: what a number of digits is at a power of ten.
 #![tactic(auto)]
 
 mod laws;
+mod numbers;
 mod parts;
 mod quotient;
 mod reading;
 mod writing;
 
 pub use laws::{answers_say_what_is_written, place_is_a_word};
+pub use numbers::number_text;
 pub use reading::to_grid;
 pub use writing::grid_text;
 

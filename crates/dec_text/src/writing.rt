@@ -4,8 +4,8 @@ ghost use Rattle.dec_text.specs.AddsText.{AddsText};
 ghost use Rattle.dec_text.specs.Grid.{grid_value};
 ghost use Rattle.dec_text.specs.GridText.{fraction_digits, fraction_text, minus_text, size_text, grid_decimal, IsDecimalFor};
 
+use crate::numbers::number_text;
 use crate::{FINEST_GRID, GREATEST_SIZE, MOST_WRITTEN_DIGITS, Snap};
-use itoa::Buffer;
 use std::alloc::{AllocError, Global};
 
 /// Adds the shortest decimal of `v` / 10^`digits`: `-` where it is negative, the whole part without zeros before
@@ -47,8 +47,7 @@ fn add_size(size: u64, digits: u32, out: &mut Vec<u8>) -> Result<(), AllocError>
 fn add_whole(n: u64, out: &mut Vec<u8>) -> Result<(), AllocError>
     ensures { AddsText (decimal n) out.old.items result out.new.items }
 {
-    let mut buffer = Buffer::new();
-    out.extend_from_slice(buffer.format(n).as_bytes())
+    number_text(n, out)
 }
 
 fn add_fraction(digits: u32, rest: u64, out: &mut Vec<u8>) -> Result<(), AllocError>

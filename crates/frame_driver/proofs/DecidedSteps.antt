@@ -1,5 +1,5 @@
 -- What can be decided of a step: whether it is accepted, and so whether places have a step or are at rest.
-use Rattle.std.proofs.Common.{◌≡◌, ℕ, ◌+◌, ◌^◌, ℤ, pos, ◌+ℤ◌, ◌≤ℤ◌, ◌<ℤ◌, List, ◌⊎◌, inl, inr, refl, unsigned_abs}
+use Rattle.std.proofs.Common.{◌≡◌, ℕ, ◌+◌, ◌^◌, ℤ, pos, ◌+ℤ◌, ◌≤ℤ◌, ◌<ℤ◌, List, ◌⊎◌, inl, inr, refl, unsigned_abs, length}
 use Rattle.std.proofs.Math.Decide.{dec_le}
 use Rattle.std.proofs.Math.IntN.{ℤ_discrete}
 use Rattle.space3.specs.declared.places.TheConstants.{BOX_LIMIT}
@@ -23,12 +23,18 @@ use Rattle.surface_mesh.specs.Safety.{corner_nodes, depth_of, part_pairs}
 use Rattle.surface_mesh.specs.Edges.{has_edges_within}
 use Rattle.potential_sum.specs.Terms.{FrameTerms}
 use Rattle.potential_sum.specs.Potential.{potential, gradient}
+use Rattle.potential_sum.specs.Matrix.{matrix}
 use Rattle.line_search.specs.declared.step.Step.{Step}
 use Rattle.volume_cert.specs.declared.edges.TheConstants.{LONGEST_EDGE}
 use Rattle.line_search.specs.Accepted.{AreInReach, IsAllowed, IsAccepted, IsFirstAccepted, HasNoAccepted}
 use Rattle.potential_sum.specs.Upright.{HasShortEdges}
-use Rattle.frame_driver.specs.Directions.{jacobi}
+use Rattle.sparse_cg.proofs.Decided.{newton_or_none}
+use Rattle.line_search.specs.declared.step.DirKind.{DirKind}
+use Rattle.line_search.specs.declared.step.DirKind.TheVariants.{Jacobi, Newton}
+use Rattle.line_search.specs.Steps.{IsFirstStep}
+use Rattle.frame_driver.specs.Directions.{HasNoNewtonStep, IsNewtonAt, jacobi_at}
 use Rattle.frame_driver.specs.Frames.{IsAtRest, HasStep, HasNoStep}
+use Rattle.frame_driver.proofs.StepsAt.{jacobi_has, newton_has, no_newton_step}
 use Rattle.list_laws.proofs.Decisions.{dec_along, dec_not, dec_two, dec_three, dec_four, dec_IsTrue, dec_lt_ℤ, dec_le_ℤ, dec_All, dec_Any, dec_below, least_or_none}
 
 -- ---- vectors
@@ -116,8 +122,9 @@ first_or_none setup terms x direction =
     ]
 
 -- the step of a halving of a direction
-abbrev step_of : Setup → FrameTerms → (x direction : List V3) → ℕ → Step
-step_of setup terms x direction half = record {
+abbrev step_of : Setup → FrameTerms → (x : List V3) → DirKind → (direction : List V3) → ℕ → Step
+step_of setup terms x kind direction half = record {
+  kind = kind;
   half = half;
   direction = direction;
   places = moved_by x direction half;
@@ -125,13 +132,37 @@ step_of setup terms x direction half = record {
   upper = potential setup terms x;
 }
 
+step_is_first : (setup : Setup) (terms : FrameTerms) (x : List V3) (kind : DirKind) (direction : List V3) (half : ℕ)
+    → IsFirstAccepted setup terms x direction half → IsFirstStep setup terms x kind direction (step_of setup terms x kind direction half)
+step_is_first setup terms x kind direction half h =
+    record { first = h; kind = refl; direction = refl; places = refl; lower = refl; upper = refl }
+
+-- Jacobi's direction has a step, or there is none
+jacobi_or_none : (setup : Setup) (terms : FrameTerms) (x : List V3) → HasNoNewtonStep setup terms x → HasStep setup terms x ⊎ HasNoStep setup terms x
+jacobi_or_none setup terms x before =
+    let direction = jacobi_at setup terms x in
+    elim (first_or_none setup terms x direction) [
+      | inl found ↦ inl (jacobi_has setup terms x (step_of setup terms x Jacobi direction found.0) before (step_is_first setup terms x Jacobi direction found.0 found.1))
+      | inr none ↦ inr (before, none)
+    ]
+
+-- this is Newton's direction: it has a step, or no halving of Newton's direction is accepted
+newton_step_or_none : (setup : Setup) (terms : FrameTerms) (x direction : List V3) → IsNewtonAt setup terms x direction → HasStep setup terms x ⊎ HasNoNewtonStep setup terms x
+newton_step_or_none setup terms x direction is_newton =
+    elim (first_or_none setup terms x direction) [
+      | inl found ↦ inl (newton_has setup terms x direction (step_of setup terms x Newton direction found.0) is_newton (step_is_first setup terms x Newton direction found.0 found.1))
+      | inr none ↦ inr (no_newton_step setup terms x direction is_newton none)
+    ]
+
 -- there is a step, or there is none
 pub step_or_none : (setup : Setup) (terms : FrameTerms) (x : List V3) → HasStep setup terms x ⊎ HasNoStep setup terms x
 step_or_none setup terms x =
-    let direction = jacobi setup terms x in
-    elim (first_or_none setup terms x direction) [
-      | inl found ↦ inl (step_of setup terms x direction found.0, record { first = found.1; direction = refl; places = refl; lower = refl; upper = refl })
-      | inr none ↦ inr none
+    elim (newton_or_none (length setup.mesh.numbers) (matrix setup terms x) (gradient setup terms x)) [
+      | inr without ↦ jacobi_or_none setup terms x (λ direction h. absurd (without direction h))
+      | inl found ↦ elim (newton_step_or_none setup terms x found.0 found.1) [
+        | inl step ↦ inl step
+        | inr none ↦ jacobi_or_none setup terms x none
+      ]
     ]
 
 pub dec_IsAtRest : (setup : Setup) (tol : ℤ) (terms : FrameTerms) (x : List V3) → Dec (IsAtRest setup tol terms x)

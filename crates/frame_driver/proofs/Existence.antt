@@ -5,8 +5,8 @@ use Rattle.space3.specs.declared.vectors.V3.{V3}
 use Rattle.surface_mesh.specs.declared.setup.Setup.{Setup}
 use Rattle.potential_sum.specs.Terms.{FrameTerms, terms_of}
 use Rattle.line_search.specs.declared.step.Step.{Step}
-use Rattle.frame_driver.specs.declared.end.FrameEnd.{FrameEnd}
-use Rattle.frame_driver.specs.declared.end.FrameEnd.TheVariants as ends
+use Rattle.line_search.specs.declared.end.FrameEnd.{FrameEnd}
+use Rattle.line_search.specs.declared.end.FrameEnd.TheVariants as ends
 use Rattle.frame_driver.specs.Frames.{Frame, IsFrame, IsAtRest, GoesOn, HasStep, EndsAt, last_after, places_after}
 use Rattle.frame_driver.specs.Paths.{FramesFrom}
 use Rattle.frame_driver.proofs.DecidedSteps.{dec_IsAtRest, step_or_none}

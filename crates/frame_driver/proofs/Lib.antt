@@ -1,10 +1,13 @@
 pub mod Advance
 pub mod DecidedSteps
+pub mod Descents
+pub mod DownhillPaths
 pub mod Existence
+pub mod HeldNodes
 pub mod OnePath
 pub mod Reached
-pub mod SetupDirections
+pub mod SafePaths
 pub mod SimPaths
 pub mod Starts
-pub mod Descents
-pub mod SafePaths
+pub mod StepsAt
+pub mod StoredSystems

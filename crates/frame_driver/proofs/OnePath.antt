@@ -5,16 +5,11 @@ use Rattle.space3.specs.declared.vectors.V3.{V3}
 use Rattle.surface_mesh.specs.declared.setup.Setup.{Setup}
 use Rattle.potential_sum.specs.Terms.{FrameTerms, terms_of}
 use Rattle.line_search.specs.declared.step.Step.{Step}
-use Rattle.line_search.proofs.OneStep.{one_first_step}
-use Rattle.frame_driver.specs.declared.end.FrameEnd.{FrameEnd}
-use Rattle.frame_driver.specs.declared.end.FrameEnd.TheVariants as ends
-use Rattle.frame_driver.specs.Directions.{jacobi}
-use Rattle.frame_driver.specs.Frames.{Frame, IsFrame, GoesOn, HasStep, HasNoStep, EndsAt, last_after, places_after}
+use Rattle.line_search.specs.declared.end.FrameEnd.{FrameEnd}
+use Rattle.line_search.specs.declared.end.FrameEnd.TheVariants as ends
+use Rattle.frame_driver.specs.Frames.{Frame, IsFrame, GoesOn, EndsAt, last_after, places_after}
 use Rattle.frame_driver.specs.Paths.{FramesFrom, after_frame}
-
--- where there is a step, it isn't so that there is none
-not_both : (setup : Setup) (terms : FrameTerms) (x : List V3) → HasStep setup terms x → HasNoStep setup terms x → ⊥
-not_both setup terms x step none = none step.0.half step.1.first.few step.1.first.accepted
+use Rattle.frame_driver.proofs.StepsAt.{not_both, one_step_at}
 
 -- at the same places after as many steps there is one end
 one_end : (setup : Setup) (tol : ℤ) (budget : ℕ) (terms : FrameTerms) (taken : ℕ) (x : List V3) (a b : FrameEnd) → EndsAt setup tol budget terms taken x a → EndsAt setup tol budget terms taken x b → a ≡ b
@@ -42,7 +37,7 @@ one_frame setup tol budget now before a b f g =
     let last : (frame : Frame) → IsFrame setup tol budget now before frame → EndsBefore places_after R budget now frame.steps =
     λ frame h step goes. end_is_last setup tol budget terms (length frame.steps) (last_after now frame.steps) frame.end h.ends step goes in
     let steps : a.steps ≡ b.steps =
-    one_chain places_after R (λ x s t p q. one_first_step setup terms x (jacobi setup terms x) s t p.step_at q.step_at) budget now a.steps b.steps f.few g.few f.steps g.steps (last a f) (last b g) in
+    one_chain places_after R (λ x s t p q. one_step_at setup terms x s t p.step_at q.step_at) budget now a.steps b.steps f.few g.few f.steps g.steps (last a f) (last b g) in
     let end : a.end ≡ b.end = one_end setup tol budget terms (length b.steps) (last_after now b.steps) a.end b.end
     (subst (λ (s : List Step). EndsAt setup tol budget terms (length s) (last_after now s) a.end) steps f.ends) g.ends in
     λ i. record { steps = steps i; end = end i }

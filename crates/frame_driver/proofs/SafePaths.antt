@@ -6,11 +6,10 @@ use Rattle.safe_motion.proofs.Ends.{safe_end}
 use Rattle.surface_mesh.specs.declared.setup.Setup.{Setup}
 use Rattle.surface_mesh.specs.Safety.{IsSafeAt, IsSafeStep, corner_nodes, part_pairs}
 use Rattle.potential_sum.specs.Terms.{FrameTerms, terms_of}
-use Rattle.line_search.proofs.SafeSteps.{first_step_is_safe}
 use Rattle.line_search.specs.declared.step.Step.{Step}
-use Rattle.frame_driver.specs.Directions.{jacobi}
 use Rattle.frame_driver.specs.Frames.{Frame, IsFrame, GoesOn, last_after, places_after}
 use Rattle.frame_driver.specs.Paths.{FramesAreSafe, FramesFrom, IsSafeFrame, StepsAreSafe}
+use Rattle.frame_driver.proofs.StepsAt.{step_is_safe}
 
 -- the last places of safe steps are safe
 last_is_safe : (setup : Setup) (now : List V3) (steps : List Step) → IsSafeAt setup now → StepsAreSafe setup now steps → IsSafeAt setup (last_after now steps)
@@ -24,7 +23,7 @@ frame_is_safe setup tol budget now before frame start h =
     let steps : StepsAreSafe setup now frame.steps =
     Follow-weaker places_after
     (GoesOn setup tol terms) (λ x step. IsSafeStep setup x step.places)
-    (λ x step s. first_step_is_safe setup terms x (jacobi setup terms x) step s.step_at) now frame.steps h.steps in
+    (λ x step s. step_is_safe setup terms x step s.step_at) now frame.steps h.steps in
     record { on_steps = steps; at_end = last_is_safe setup now frame.steps start steps }
 
 -- and so is each of a path

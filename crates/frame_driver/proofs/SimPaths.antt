@@ -1,9 +1,11 @@
 -- A simulation goes along its path.
-use Rattle.std.proofs.Common.{◌≡◌, List, [], ◌∷◌, ◌++◌, refl, sym, ◌∙◌, subst}
-use Rattle.frame_driver.specs.declared.end.FrameEnd.{FrameEnd}
+use Rattle.std.proofs.Common.{◌≡◌, Bool, List, [], ◌∷◌, ◌++◌, refl, sym, ◌∙◌, subst}
+use Rattle.line_search.specs.declared.end.FrameEnd.{FrameEnd}
 use Rattle.frame_driver.specs.Frames.{Frame, IsFrame}
 use Rattle.frame_driver.specs.Paths.{FramesFrom}
+use Rattle.line_search.specs.declared.step.Step.{Step}
 use Rattle.frame_driver.specs.Sims.{SimState, Advances}
+use Rattle.frame_driver.specs.Calls.Descents.{notes_of}
 use Rattle.frame_driver.proofs.OnePath.{one_frame}
 use Rattle.frame_driver.proofs.Reached.{now_after, before_after, now_after-append, before_after-append, frames_push}
 
@@ -15,14 +17,25 @@ FramesOf sim frames = FramesFrom sim.setup sim.tol sim.budget sim.places sim.bef
 abbrev pub IsNext : SimState → Frame → Type 0
 IsNext sim frame = IsFrame sim.setup sim.tol sim.budget sim.places sim.before frame
 
+-- the notes after these frames: those of the last one
+abbrev pub notes_after : (keep : Bool) (notes : List Step) → List Frame → List Step
+notes_after keep notes [] = notes
+notes_after keep notes (frame ∷ frames) = notes_after keep (notes_of keep frame.steps) frames
+
+notes_after-append : (keep : Bool) (notes : List Step) (frames more : List Frame) → notes_after keep notes (frames ++ more) ≡ notes_after keep (notes_after keep notes frames) more
+notes_after-append keep notes [] more = refl
+notes_after-append keep notes (frame ∷ frames) more = notes_after-append keep (notes_of keep frame.steps) frames more
+
 -- where a simulation stands after these frames
 abbrev pub state_after : SimState → List Frame → SimState
 state_after sim frames = record {
   setup = sim.setup;
   tol = sim.tol;
   budget = sim.budget;
+  keep = sim.keep;
   places = now_after sim.places frames;
   before = before_after sim.places sim.before frames;
+  notes = notes_after sim.keep sim.notes frames;
 }
 
 pub state_after-append : (sim : SimState) (frames more : List Frame) → state_after sim (frames ++ more) ≡ state_after (state_after sim frames) more
@@ -30,8 +43,10 @@ state_after-append sim frames more = λ i. record {
   setup = sim.setup;
   tol = sim.tol;
   budget = sim.budget;
+  keep = sim.keep;
   places = now_after-append sim.places frames more i;
   before = before_after-append sim.places sim.before frames more i;
+  notes = notes_after-append sim.keep sim.notes frames more i;
 }
 
 -- ---- one frame
@@ -40,7 +55,16 @@ abbrev pub frame_of : (end : FrameEnd) (old new : SimState) → Advances end old
 frame_of end old new h = record { steps = h.steps; end = end }
 
 pub advance_state : (end : FrameEnd) (old new : SimState) (h : Advances end old new) → new ≡ state_after old (frame_of end old new h ∷ [])
-advance_state end old new h = λ i. record { setup = h.setup i; tol = h.tol i; budget = h.budget i; places = h.places i; before = h.before i }
+advance_state end old new h =
+    λ i. record {
+      setup = h.setup i;
+      tol = h.tol i;
+      budget = h.budget i;
+      keep = h.keep i;
+      places = h.places i;
+      before = h.before i;
+      notes = h.notes i;
+    }
 
 -- an advance passes the first of the frames to come, and the others are still to come
 pub record Passes (end : FrameEnd) (old new : SimState) (frame : Frame) (rest : List Frame) : Type 0 where

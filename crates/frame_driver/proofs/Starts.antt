@@ -26,7 +26,7 @@ use Rattle.surface_mesh.proofs.SetupFacts.{velocity_length}
 use Rattle.volume_cert.specs.declared.edges.TheConstants.{LONGEST_EDGE}
 use Rattle.line_search.specs.Poses.{IsPose}
 use Rattle.potential_sum.specs.Upright.{HasShortEdges}
-use Rattle.frame_driver.specs.Paths.{first_before}
+use Rattle.frame_driver.specs.Paths.{first_before, less_velocities}
 
 -- ---- vectors
 -- a place is near
@@ -95,3 +95,7 @@ length-first_before s built =
     let placed : length s.mesh.numbers ≡ length s.mesh.places = built.mesh_is_sound.placed in
     let moving : length s.velocity ≡ length s.mesh.numbers = velocity_length s built in
     length-map (zip s.mesh.places s.velocity) (λ node. difference node.0 node.1) ∙ omega (arith, length-zip s.mesh.places s.velocity, placed, moving)
+
+-- the list that is made of these velocities is that of the path
+pub made_is_before : (s : Setup) (velocities list : List V3) → velocities ≡ s.velocity → list ≡ less_velocities s.mesh.places velocities → list ≡ first_before s
+made_is_before s velocities list e made = made ∙ ap (less_velocities s.mesh.places) e

@@ -1,3 +1,4 @@
 -- Words of the private functions.
 pub mod Descents
-pub mod Slopes
+pub mod Systems
+pub mod WorkingSims

@@ -6,20 +6,24 @@ use Rattle.space3.specs.declared.vectors.V3.{V3}
 use Rattle.surface_mesh.specs.declared.setup.Setup.{Setup}
 use Rattle.potential_sum.specs.Terms.{FrameTerms, terms_of}
 use Rattle.potential_sum.specs.Potential.{gradient}
+use Rattle.line_search.specs.declared.step.DirKind.TheVariants as kinds
 use Rattle.line_search.specs.declared.step.Step.{Step}
 use Rattle.line_search.specs.Accepted.{HasNoAccepted}
 use Rattle.line_search.specs.Steps.{IsFirstStep}
-use Rattle.frame_driver.specs.declared.end.FrameEnd.{FrameEnd}
-use Rattle.frame_driver.specs.declared.end.FrameEnd.TheVariants as ends
-use Rattle.frame_driver.specs.Directions.{jacobi}
+use Rattle.line_search.specs.declared.end.FrameEnd.{FrameEnd}
+use Rattle.line_search.specs.declared.end.FrameEnd.TheVariants as ends
+use Rattle.frame_driver.specs.Directions.{HasNoNewtonStep, IsNewtonAt, jacobi_at}
 
 -- no component of the gradient is above the tolerance in absolute value
 abbrev pub IsAtRest : Setup → (tol : ℤ) → FrameTerms → List V3 → Type 0
 IsAtRest setup tol terms places = All (λ slope. pos (unsigned_abs slope) ≤ℤ tol) (gradient setup terms places)
 
--- the step at the places x: that of the least accepted halving of Jacobi's direction
-abbrev pub IsStepAt : Setup → FrameTerms → List V3 → Step → Type 0
-IsStepAt setup terms x step = IsFirstStep setup terms x (jacobi setup terms x) step
+-- the step at the places x: that of Newton's direction where it has one, else that of Jacobi's
+pub data IsStepAt (setup : Setup) (terms : FrameTerms) (x : List V3) (step : Step) : Type 0 where
+  OfNewton : (direction : List V3) → IsNewtonAt setup terms x direction
+      → IsFirstStep setup terms x kinds.Newton direction step → IsStepAt setup terms x step
+  OfJacobi : HasNoNewtonStep setup terms x
+      → IsFirstStep setup terms x kinds.Jacobi (jacobi_at setup terms x) step → IsStepAt setup terms x step
 
 -- there is a step at the places x
 abbrev pub HasStep : Setup → FrameTerms → List V3 → Type 0
@@ -27,7 +31,7 @@ HasStep setup terms x = (step : Step) × IsStepAt setup terms x step
 
 -- there is no step at the places x
 abbrev pub HasNoStep : Setup → FrameTerms → List V3 → Type 0
-HasNoStep setup terms x = HasNoAccepted setup terms x (jacobi setup terms x)
+HasNoStep setup terms x = HasNoNewtonStep setup terms x × HasNoAccepted setup terms x (jacobi_at setup terms x)
 
 -- a frame goes on from the places x by this step: it isn't at rest there, and the step is the one there
 pub record GoesOn (setup : Setup) (tol : ℤ) (terms : FrameTerms) (x : List V3) (step : Step) : Type 0 where

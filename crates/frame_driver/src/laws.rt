@@ -3,7 +3,7 @@ ghost use Rattle.std.specs.Prelude.{◌≡◌, ℕ, ℤ, List, length};
 ghost use Rattle.space3.specs.declared.vectors.V3.{V3};
 ghost use Rattle.surface_mesh.specs.declared.setup.Setup.{Setup};
 ghost use Rattle.frame_driver.specs.Frames.{Frame};
-ghost use Rattle.frame_driver.specs.Paths.{FramesAreSafe, FramesFrom};
+ghost use Rattle.frame_driver.specs.Paths.{FramesAreSafe, FramesFrom, FramesGoDown, FramesHold};
 ghost use Rattle.surface_mesh.specs.Safety.{IsSafeAt};
 
 /// From all places, after all places, there is a path of so many frames.
@@ -26,4 +26,18 @@ pub fn paths_are_safe()
     ensures { (setup : Setup) (tol : ℤ) (budget : ℕ) (now before : List V3) (frames : List Frame) →
         IsSafeAt setup now → FramesFrom setup tol budget now before frames
         → FramesAreSafe setup now frames }
+{}
+
+/// Each step of a path is that of Newton's direction, or where that has none of Jacobi's, and lowers the potential of
+/// its frame.
+pub fn paths_go_down()
+    ensures { (setup : Setup) (tol : ℤ) (budget : ℕ) (now before : List V3) (frames : List Frame) →
+        FramesFrom setup tol budget now before frames → FramesGoDown setup now before frames }
+{}
+
+/// No step of a path moves a fixed node. There is a flag for each node.
+pub fn fixed_nodes_stay()
+    ensures { (setup : Setup) (tol : ℤ) (budget : ℕ) (now before : List V3) (frames : List Frame) →
+        length setup.fixed ≡ length setup.mesh.numbers → FramesFrom setup tol budget now before frames
+        → FramesHold setup now frames }
 {}

@@ -2,12 +2,11 @@
 #![tactic(auto)]
 
 mod before;
-mod end;
 mod frame;
-mod jacobi;
 mod laws;
 mod sim;
+mod steps;
 
-pub use end::FrameEnd;
-pub use laws::{one_path, paths_are_safe, there_is_a_path};
+pub use laws::{fixed_nodes_stay, one_path, paths_are_safe, paths_go_down, there_is_a_path};
+pub use line_search::{DirKind, FrameEnd, Step};
 pub use sim::Sim;

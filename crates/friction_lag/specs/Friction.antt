@@ -1,10 +1,10 @@
 -- Friction of a contact, by how far its parts slid on one another since the frame began. Lengths have 16 fraction bits.
-use Rattle.std.specs.Prelude.{ℕ, ◌*◌, ◌^◌, ℤ, pos, ◌+ℤ◌, ◌-ℤ◌, ◌*ℤ◌, unsigned_abs, List, map, zip, nat_lt, if◌then◌else◌, slice_index_or}
+use Rattle.std.specs.Prelude.{ℕ, ◌*◌, ◌^◌, ℤ, pos, ◌+ℤ◌, ◌-ℤ◌, ◌*ℤ◌, unsigned_abs, List, [], ◌∷◌, map, zip, nat_lt, if◌then◌else◌, slice_index_or}
 use Rattle.num_q.specs.Rounding.{floor_of, cut_of}
 use Rattle.space3.specs.declared.vectors.V3.{V3}
 use Rattle.space3.specs.Vectors.{vector, difference, dot_product}
 use Rattle.vec_q.specs.Matrices.{M3, unit_times}
-use Rattle.vec_q.specs.Rows.{vector_of}
+use Rattle.vec_q.specs.Rows.{rows_of, vector_of}
 use Rattle.nearest.specs.declared.limits.TheConstants.{ONE}
 use Rattle.nearest.specs.SignedWeights.{signed_sum}
 use Rattle.friction_lag.specs.Contacts.{LaggedContact, length_of}
@@ -68,3 +68,17 @@ abbrev pub friction_block : LaggedContact → (friction slip : ℤ) → List V3 
 friction_block c friction slip places i j =
     let weight = λ (k : ℕ). slice_index_or c.signed k (pos 0) in
     unit_times (cut_of 86 (floor_of (drag_of c friction slip (slide_of c places) *ℤ weight i *ℤ weight j) (pos (2 ^ 48))))
+
+-- the block of two points by the signed weights, and the blocks of a point with each, by their rows
+abbrev pub block_of : (drag : ℤ) (signed : List ℤ) (i j : ℕ) → M3
+block_of drag signed i j =
+    let weight = λ (k : ℕ). slice_index_or signed k (pos 0) in
+    unit_times (cut_of 86 (floor_of (drag *ℤ weight i *ℤ weight j) (pos (2 ^ 48))))
+
+abbrev pub blocks_of : (drag : ℤ) (signed : List ℤ) (i : ℕ) → List (List (List ℤ))
+blocks_of drag signed i = map (λ j. rows_of (block_of drag signed i j)) (0 ∷ 1 ∷ 2 ∷ 3 ∷ [])
+
+-- the blocks of each two points, by their rows
+abbrev pub friction_blocks : LaggedContact → (friction slip : ℤ) → List V3 → List (List (List (List ℤ)))
+friction_blocks c friction slip places =
+    map (λ i. map (λ j. rows_of (friction_block c friction slip places i j)) (0 ∷ 1 ∷ 2 ∷ 3 ∷ [])) (0 ∷ 1 ∷ 2 ∷ 3 ∷ [])

@@ -10,8 +10,7 @@ ghost use Rattle.vec_q.specs.Rows.{components, rows_of};
 ghost use Rattle.nearest.specs.declared.limits.TheConstants.{ONE};
 ghost use Rattle.nearest.specs.Cancelling.{AlmostCancel};
 ghost use Rattle.nearest.specs.SignedWeights.{AreBalanced};
-ghost use Rattle.friction_lag.specs.declared.friction.TheConstants.{MOST_FRICTION};
-ghost use Rattle.friction_lag.specs.declared.smooth.TheConstants.{MOST_SLIP};
+ghost use Rattle.surface_mesh.specs.declared.ranges.TheConstants.{MOST_FRICTION, MOST_SLIP};
 ghost use Rattle.friction_lag.specs.Contacts.{length_of};
 ghost use Rattle.friction_lag.specs.Friction.{drag_of, pull, pull_at, slide_of, slip_of, smooth_length};
 ghost use Rattle.friction_lag.specs.Friction.{friction_block, friction_energy, friction_gradient};
@@ -25,9 +24,6 @@ use near_pair::weight_at;
 use num_q::Q;
 use space3::V3;
 use vec_q::VecQ;
-
-/// The greatest coefficient of friction, in 256ths.
-pub const MOST_FRICTION: i64 = 1024;
 
 /// The energy of friction at these places. `friction` is the coefficient in 256ths, from 0 to 1024; `slip`, from 1 to
 /// 1024 grid units per frame, is the slide below which friction is smooth.
@@ -90,7 +86,7 @@ pub fn friction_gradient(c: &Contact, friction: i64, slip: i64, x: &[V3; 4]) -> 
 }
 
 // The force of friction over the slide.
-fn drag_of(c: &Contact, friction: i64, slip: i64, slide: VecQ<16, 41>) -> Q<17, 80>
+pub(crate) fn drag_of(c: &Contact, friction: i64, slip: i64, slide: VecQ<16, 41>) -> Q<17, 80>
     requires friction { IsFrom (pos 0) MOST_FRICTION friction }
     requires slip { IsFrom (pos 1) MOST_SLIP slip }
     ensures { result.raw ≡ drag_of (lagged_in c.now) friction slip (raws slide) }
@@ -171,7 +167,7 @@ pub fn friction_block(
     unit_times(entry(drag, first, second))
 }
 
-fn entry(drag: Q<17, 80>, first: Q<16, 17>, second: Q<16, 17>) -> Q<1, 86>
+pub(crate) fn entry(drag: Q<17, 80>, first: Q<16, 17>, second: Q<16, 17>) -> Q<1, 86>
     ensures { result.raw ≡ cut_of 86 (floor_of (drag.raw *ℤ first.raw *ℤ second.raw) (pos (2 ^ 48))) }
 {
     let part: Q<33, 97> = drag.mul_into(first);
@@ -181,7 +177,7 @@ fn entry(drag: Q<17, 80>, first: Q<16, 17>, second: Q<16, 17>) -> Q<1, 86>
 }
 
 // The unit matrix times a number.
-fn unit_times(k: Q<1, 86>) -> [[i128; 3]; 3]
+pub(crate) fn unit_times(k: Q<1, 86>) -> [[i128; 3]; 3]
     ensures { result ≡ rows_of (unit_times k.raw) }
 {
     [[k.raw(), 0, 0], [0, k.raw(), 0], [0, 0, k.raw()]]

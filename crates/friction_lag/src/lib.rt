@@ -2,6 +2,7 @@
 //! It is that of Li and others, "Incremental Potential Contact", 2020, as exact whole numbers.
 #![tactic(auto)]
 
+mod blocks;
 mod contacts;
 mod friction;
 mod lagged;
@@ -10,8 +11,8 @@ mod normal;
 mod slide;
 mod smooth;
 
+pub use blocks::friction_blocks;
 pub use contacts::Contact;
-pub use friction::{MOST_FRICTION, friction_block, friction_energy, friction_gradient};
+pub use friction::{friction_block, friction_energy, friction_gradient};
 pub use lagged::contact;
 pub use laws::example_of_a_sliding_point;
-pub use smooth::MOST_SLIP;

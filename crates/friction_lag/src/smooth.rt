@@ -2,13 +2,10 @@
 ghost use Rattle.std.specs.Prelude.{◌≡◌, ◌≤◌, ◌<◌, ◌*◌, ◌^◌, pos, ◌≤ℤ◌, unsigned_abs};
 ghost use Rattle.whole_laws.specs.Ranges.{IsFrom};
 ghost use Rattle.nearest.specs.declared.limits.TheConstants.{ONE};
-ghost use Rattle.friction_lag.specs.declared.smooth.TheConstants.{MOST_SLIP};
+ghost use Rattle.surface_mesh.specs.declared.ranges.TheConstants.{MOST_SLIP};
 ghost use Rattle.friction_lag.specs.Friction.{slip_of, smooth_length, smooth_rate};
 
 use num_q::Q;
-
-/// The greatest slip, in grid units per frame.
-pub const MOST_SLIP: i64 = 1024;
 
 /// The slip with 16 fraction bits.
 pub fn slip_of(slip: i64) -> u64

@@ -2,10 +2,12 @@
 use Rattle.std.proofs.Common.{◌≡◌, ℕ, List, [], ◌∷◌, ◌++◌, take, refl, ap, sym, subst, ◌∙◌, append_assoc, append-nil, Option, Some, None, Result, Ok, Err, IsErrAnd}
 use Rattle.std.specs.FinMap.{insert}
 use Rattle.std.specs.Io.KnownBytes.{append_known}
-use Rattle.shelf_io.specs.Shelf.{Files, ShelfState}
+use Rattle.report_text.specs.declared.line.Line.{Line}
+use Rattle.report_text.specs.Lines.{text_of_line}
+use Rattle.shelf_io.specs.Shelf.{Files, ShelfState, SinkState}
 use Rattle.ipc_top.specs.declared.acts.Stop.{Stop}
 use Rattle.ipc_top.specs.declared.acts.Stop.TheVariants as stops
-use Rattle.ipc_top.specs.Acts.{Act, Take, Put, Say, files_after, told_after, said, World, Did, ShelfStays, ReadFault, WriteFault, IsLineOf, Next, Unread, Unwritten, IsDue, StopsNext, Stops}
+use Rattle.ipc_top.specs.Acts.{Act, Take, Put, Say, files_after, told_after, said, World, world, Did, ShelfStays, ReadFault, WriteFault, IsLineOf, Next, Unread, Unwritten, IsDue, StopsNext, Stops}
 use Rattle.ipc_top.specs.Calls.Acts.{Does}
 
 pub files_after-append : (xs ys : List Act) (fs : Files) → files_after (xs ++ ys) fs ≡ files_after ys (files_after xs fs)
@@ -22,7 +24,7 @@ pub said-append : (xs ys : List Act) → said (xs ++ ys) ≡ said xs ++ said ys
 said-append [] ys = refl
 said-append (Take name ∷ xs) ys = said-append xs ys
 said-append (Put name text ∷ xs) ys = said-append xs ys
-said-append (Say line ∷ xs) ys = ap (λ bs. line ++ bs) (said-append xs ys) ∙ sym (append_assoc line (said xs) (said ys))
+said-append (Say line ∷ xs) ys = ap (λ bs. text_of_line line ++ bs) (said-append xs ys) ∙ sym (append_assoc (text_of_line line) (said xs) (said ys))
 
 pub append_known-twice : (known : Option (List ℕ)) (xs ys : List ℕ) → append_known (append_known known xs) ys ≡ append_known known (xs ++ ys)
 append_known-twice None xs ys = refl
@@ -69,7 +71,7 @@ stops_after xs ys p q = record {
 longer : {due later : List Act} {act : Act} (ys : List Act) → due ≡ act ∷ later → due ++ ys ≡ act ∷ (later ++ ys)
 longer ys e = ap (λ zs. zs ++ ys) e
 
-due_before : {due : List Act} (ys : List Act) → IsDue due → IsDue (due ++ ys)
+pub due_before : {due : List Act} (ys : List Act) → IsDue due → IsDue (due ++ ys)
 due_before ys d = record { act = d.act; later = d.later ++ ys; next = longer ys d.next }
 
 read_before : {due : List Act} {old new : ShelfState} (ys : List Act) → ReadFault due old new → ReadFault (due ++ ys) old new
@@ -78,7 +80,7 @@ read_before ys f = record { name = f.name; later = f.later ++ ys; next = longer 
 write_before : {due : List Act} {old new : ShelfState} (ys : List Act) → WriteFault due old new → WriteFault (due ++ ys) old new
 write_before ys f = record { name = f.name; text = f.text; later = f.later ++ ys; next = longer ys f.next; files = f.files; failed = f.failed; rose = f.rose; read_faults = f.read_faults }
 
-line_before : {due : List Act} {old new : ShelfState} {line : List ℕ} (ys : List Act) → IsLineOf due old new line → IsLineOf (due ++ ys) old new line
+line_before : {due : List Act} {old new : ShelfState} {line : Line} (ys : List Act) → IsLineOf due old new line → IsLineOf (due ++ ys) old new line
 unfolding read_before write_before
 line_before ys (Next n) = Next (record { later = n.later ++ ys; next = longer ys n.next; stays = n.stays })
 line_before ys (Unread fault is) = Unread (read_before ys fault) is
@@ -106,9 +108,25 @@ stops_before {stop} {old} {new} xs ys q = record {
 pub stops_first : {stop : Stop} {old new : World} (acts : List Act) → StopsNext stop acts old new → Stops stop acts old new
 stops_first {stop} {old} {new} acts f = record { done = []; due = acts; list = refl; between = old; did = did_nothing old; fails = f }
 
+-- a line was said
+pub said_line : (line : Line) (text : List ℕ) (s : ShelfState) (old new : SinkState) → text ≡ text_of_line line → new.written ≡ append_known old.written text → new.faults ≡ old.faults → Did (Say line ∷ []) (world s old) (world s new)
+said_line line text s old new is written faults = record {
+  files = told_after-nil s.files;
+  written = written ∙ ap (append_known old.written) (is ∙ sym (append-nil (text_of_line line)));
+  read_faults = refl;
+  write_faults = refl;
+  faults = faults;
+  finished = λ e. e;
+}
+
 -- an act of a list is due
 pub due_first : (act : Act) (later : List Act) → IsDue (act ∷ later)
 due_first act later = record { act = act; later = later; next = refl }
+
+-- an act after others is due, or one of these
+pub due_in : (xs : List Act) (act : Act) (later : List Act) → IsDue (xs ++ act ∷ later)
+due_in [] act later = due_first act later
+due_in (x ∷ xs) act later = due_first x (xs ++ act ∷ later)
 
 pub shelf_stays : (s : ShelfState) → ShelfStays s s
 shelf_stays s = record { files = refl; read_faults = refl; write_faults = refl; finished = λ e. e }
@@ -118,9 +136,12 @@ pub nothing_done : (acts : List Act) (w : World) → IsDue acts → Stops stops.
 nothing_done acts w due = stops_first acts (record { act = due; shelf = shelf_stays w.shelf; console = refl })
 
 -- the same, as a `?` gives it
+pub lacks_some_memory : {T : Type 0} (acts : List Act) (result : Result T Stop) (w : World) → IsErrAnd result (λ e. e ≡ stops.Memory) → IsDue acts → Does acts result w w
+lacks_some_memory acts (Ok x) w h due = absurd h
+lacks_some_memory acts (Err e) w h due = subst (λ (stop : Stop). Stops stop acts w w) (sym h) (nothing_done acts w due)
+
 pub lacks_memory : {T : Type 0} (act : Act) (later : List Act) (result : Result T Stop) (w : World) → IsErrAnd result (λ e. e ≡ stops.Memory) → Does (act ∷ later) result w w
-lacks_memory act later (Ok x) w h = absurd h
-lacks_memory act later (Err e) w h = subst (λ (stop : Stop). Stops stop (act ∷ later) w w) (sym h) (nothing_done (act ∷ later) w (due_first act later))
+lacks_memory act later result w h = lacks_some_memory (act ∷ later) result w h (due_first act later)
 
 -- what a `?` hands on
 pub does_stopped : {T : Type 0} {stop : Stop} {old new : World} (acts : List Act) (result : Result T Stop) → IsErrAnd result (λ e. e ≡ stop) → Stops stop acts old new → Does acts result old new
@@ -132,6 +153,10 @@ pub does_then : {T : Type 0} (xs ys : List Act) (result : Result T Stop) (old mi
 does_then xs ys (Ok x) old mid new did does = did_after xs ys did does
 does_then xs ys (Err stop) old mid new did does = stops_after xs ys did does
 
+-- the same, where some acts were stopped and a `?` hands it on
+pub stops_then : {T : Type 0} {stop : Stop} {old new : World} (xs ys : List Act) (result : Result T Stop) → IsErrAnd result (λ e. e ≡ stop) → Stops stop xs old new → Does (xs ++ ys) result old new
+stops_then xs ys result is stops = does_stopped (xs ++ ys) result is (stops_before xs ys stops)
+
 -- acts that are given otherwise
 pub does_same : {T : Type 0} (xs ys : List Act) (result : Result T Stop) (old new : World) → xs ≡ ys → Does xs result old new → Does ys result old new
 does_same xs ys result old new e does = subst (λ (acts : List Act). Does acts result old new) e does
@@ -140,6 +165,6 @@ does_same xs ys result old new e does = subst (λ (acts : List Act). Does acts r
 pub did_same : {old new : World} (xs ys : List Act) → xs ≡ ys → Did xs old new → Did ys old new
 did_same {old} {new} xs ys e did = subst (λ (acts : List Act). Did acts old new) e did
 
--- the acts of a start, given otherwise
-pub same_start : {line line' name name' text text' last : List ℕ} → line ≡ line' → name ≡ name' → text ≡ text' → Say line ∷ Put name text ∷ Say last ∷ [] ≡ Say line' ∷ Put name' text' ∷ Say last ∷ []
-same_start {last = last} e h k = λ i. Say (e i) ∷ Put (h i) (k i) ∷ Say last ∷ []
+-- a file that is given otherwise
+pub same_put : {name name' text text' : List ℕ} → name ≡ name' → text ≡ text' → Put name text ∷ [] ≡ Put name' text' ∷ []
+same_put e h = λ i. Put (e i) (h i) ∷ []

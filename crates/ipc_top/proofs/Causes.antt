@@ -3,25 +3,33 @@ use Rattle.std.proofs.Common.{◌≡◌, ◌⊎◌, ◌+◌, ℕ, inl, inr, refl
 use Rattle.std.specs.Prelude.{if◌then◌else◌}
 use Rattle.std.specs.List.{list_all}
 use Rattle.shelf_io.specs.Shelf.{Files, Rose, IsIfTold}
+use Rattle.space3.specs.declared.mesh.Mesh.{Mesh}
+use Rattle.space3.specs.declared.vectors.V3.{V3}
+use Rattle.boundary.specs.declared.refusal.SurfErr.{SurfErr}
+use Rattle.boundary.specs.declared.refusal.SurfErr.TheVariants as surfaces
 use Rattle.surface_mesh.specs.declared.setup.Setup.{Setup}
-use Rattle.frame_driver.specs.Frames.{Frame}
+use Rattle.frame_driver.specs.Frames.{Frame, last_after}
 use Rattle.ipc_top.specs.declared.acts.Stop.TheVariants as stops
 use Rattle.ipc_top.specs.declared.refusals.End.{End}
 use Rattle.ipc_top.specs.declared.refusals.End.TheVariants as ends
-use Rattle.ipc_top.specs.Acts.{Take, Put, Say, World, Stops}
-use Rattle.ipc_top.specs.CallsFor.{CommandCallsFor, CallsFor, usage_plan}
-use Rattle.ipc_top.specs.Commands.{Command, command_of}
+use Rattle.ipc_top.specs.Acts.{Act, Take, Put, Say, World, Stops}
+use Rattle.work_gen.specs.Stack.{stack_mesh}
+use Rattle.ipc_top.specs.CallsFor.{CommandCallsFor, CallsFor, StackCallsFor, usage_plan}
+use Rattle.ipc_top.specs.Commands.{Command, RunStack, command_of}
 use Rattle.ipc_top.specs.Ends.{IsOneOf, IsPlain, IsStatus, IsInput, EndsWhole, Closes, Ends, NoFault, Completes}
-use Rattle.ipc_top.specs.Files.{Outcome}
-use Rattle.ipc_top.specs.Jobs.{Job}
+use Rattle.ipc_top.specs.Files.{Outcome, Accepted, Refused, Continues}
+use Rattle.ipc_top.specs.Jobs.{Job, stack_job}
+use Rattle.ipc_top.specs.Meshes.{surface_refused_plan}
 use Rattle.ipc_top.specs.Motions.{Start}
-use Rattle.ipc_top.specs.Moves.{Moves, frames_status, is_converged}
+use Rattle.ipc_top.specs.Moves.{Moves, acts_of_frames, first_start, frames_status, is_converged, motion_plan}
 use Rattle.ipc_top.specs.Plans.{Plan}
 use Rattle.ipc_top.specs.Roles.{Role, Seen, everywhere}
 use Rattle.ipc_top.specs.Calls.Files.{Takes}
 use Rattle.ipc_top.specs.Calls.Plans.{Follows, FollowsOne, Obeys, status_of}
 use Rattle.ipc_top.proofs.EachPlan.{each_plan}
 use Rattle.ipc_top.proofs.OnePlan.{only_plan}
+use Rattle.ipc_top.proofs.Outcomes.{makes_refusal}
+use Rattle.ipc_top.proofs.Taking.{OnRefused}
 use Rattle.ipc_top.proofs.SafePlans.{plans_safe}
 
 -- ---- how an answer closes a plan
@@ -130,28 +138,35 @@ usage_means {old} {new} words result done e = by result done.follows e
     by (Err (ends.Stopped stops.Console)) h e = absurd (omega arith)
     by (Err (ends.Stopped stops.Memory)) h e = absurd (omega arith)
 
-not_in_none : {X : Type 0} (xs ys : List X) (x : X) → [] ≡ xs ++ x ∷ ys → ⊥
-not_in_none [] ys x e = cc
-not_in_none (y ∷ xs) ys x e = cc
+-- ---- acts that say lines, and no others
+abbrev SayOnly : List Act → Type 0
+SayOnly [] = Unit {0}
+SayOnly (Take name ∷ acts) = ⊥
+SayOnly (Put name text ∷ acts) = ⊥
+SayOnly (Say line ∷ acts) = SayOnly acts
 
-in_one : {X : Type 0} (xs ys : List X) (x y : X) → y ∷ [] ≡ xs ++ x ∷ ys → y ≡ x
-in_one [] ys x y e = cc
-in_one (z ∷ xs) ys x y e =
-    let rest : [] ≡ xs ++ x ∷ ys = cc in
-    absurd (not_in_none xs ys x rest)
+none_taken : (done later : List Act) (name : List ℕ) → SayOnly (done ++ Take name ∷ later) → ⊥
+none_taken [] later name only = only
+none_taken (Take other ∷ done) later name only = only
+none_taken (Put other text ∷ done) later name only = only
+none_taken (Say line ∷ done) later name only = none_taken done later name only
 
--- where one line is said, the shelf can't fail
-not_read : {old new : World} (line : List ℕ) → Stops stops.Read (Say line ∷ []) old new → ⊥
-not_read line s =
+none_put : (done later : List Act) (name text : List ℕ) → SayOnly (done ++ Put name text ∷ later) → ⊥
+none_put [] later name text only = only
+none_put (Take other ∷ done) later name text only = only
+none_put (Put other text' ∷ done) later name text only = only
+none_put (Say line ∷ done) later name text only = none_put done later name text only
+
+-- where lines alone are said, the shelf can't fail
+not_read : {old new : World} (acts : List Act) → SayOnly acts → Stops stops.Read acts old new → ⊥
+not_read acts only s =
     let f = s.fails.fault in
-    let e : Say line ≡ Take f.name = in_one s.done f.later (Take f.name) (Say line) (s.list ∙ ap (λ acts. s.done ++ acts) f.next) in
-    cc
+    none_taken s.done f.later f.name (subst SayOnly (s.list ∙ ap (λ due. s.done ++ due) f.next) only)
 
-not_written : {old new : World} (line : List ℕ) → Stops stops.Write (Say line ∷ []) old new → ⊥
-not_written line s =
+not_written : {old new : World} (acts : List Act) → SayOnly acts → Stops stops.Write acts old new → ⊥
+not_written acts only s =
     let f = s.fails.fault in
-    let e : Say line ≡ Put f.name f.text = in_one s.done f.later (Put f.name f.text) (Say line) (s.list ∙ ap (λ acts. s.done ++ acts) f.next) in
-    cc
+    none_put s.done f.later f.name f.text (subst SayOnly (s.list ∙ ap (λ due. s.done ++ due) f.next) only)
 
 pub no_command : {old new : World} (words : List (List ℕ)) (result : Result ℕ End) → Obeys (CallsFor words) result old new → command_of words ≡ None → IsOneOf (2 ∷ 8 ∷ 9 ∷ []) (status_of result)
 no_command {old} {new} words result done e = by result (subst (λ (p : Plan). Follows p result old new) calls done.follows)
@@ -165,10 +180,58 @@ no_command {old} {new} words result done e = by result (subst (λ (p : Plan). Fo
     by : (r : Result ℕ End) → Follows usage_plan r old new → IsOneOf (2 ∷ 8 ∷ 9 ∷ []) (status_of r)
     by (Ok status) h = two status h.1
     by (Err (ends.Refused status)) h = two status h.1
-    by (Err (ends.Stopped stops.Read)) h = absurd (not_read _ h)
-    by (Err (ends.Stopped stops.Write)) h = absurd (not_written _ h)
+    by (Err (ends.Stopped stops.Read)) h = absurd (not_read usage_plan.acts tt h)
+    by (Err (ends.Stopped stops.Write)) h = absurd (not_written usage_plan.acts tt h)
     by (Err (ends.Stopped stops.Console)) h = refl
     by (Err (ends.Stopped stops.Memory)) h = refl
+
+-- ---- the stated stack
+
+-- the statuses of a command without files
+abbrev IsStackStatus : ℕ → Type 0
+IsStackStatus = IsOneOf (0 ∷ 1 ∷ 6 ∷ 7 ∷ 8 ∷ 9 ∷ [])
+
+frames_say_only : (setup : Setup) (number : ℕ) (now : List V3) (frames : List Frame) → SayOnly (acts_of_frames stack_job setup number now frames)
+frames_say_only setup number now [] = tt
+frames_say_only setup number now (frame ∷ frames) = frames_say_only setup (number + 1) (last_after now frame.steps) frames
+
+-- it says lines alone, and ends with one of these statuses
+record Speaks (plan : Plan) : Type 0 where
+  only : SayOnly plan.acts
+  owed : IsStackStatus plan.status
+
+motion_speaks : (setup : Setup) (frames : List Frame) → Speaks (motion_plan stack_job (record { setup = setup; start = first_start stack_job setup; frames = frames }))
+motion_speaks setup frames = record { only = frames_say_only setup 1 setup.mesh.places frames; owed = frames_owe IsStackStatus frames refl refl }
+
+surface_speaks : (mesh : Mesh) (err : SurfErr) → Speaks (surface_refused_plan mesh err)
+surface_speaks mesh surfaces.Memory = record { only = tt; owed = refl }
+surface_speaks mesh (surfaces.FaceThrice tets) = record { only = tt; owed = refl }
+surface_speaks mesh (surfaces.FaceSame tets) = record { only = tt; owed = refl }
+surface_speaks mesh (surfaces.TooManyTriangles count) = record { only = tt; owed = refl }
+
+stack_speaks : (blocks : ℕ) (plan : Plan) → StackCallsFor blocks plan → Speaks plan
+stack_speaks blocks plan calls = by calls.outcome calls.continues
+    (makes_refusal Speaks (λ mesh err refused. surface_speaks mesh err) (λ setup defect. record { only = tt; owed = refl }) stack_job.numbers (stack_mesh blocks) calls.outcome calls.makes)
+  where
+    by : (o : Outcome Setup) → Continues o (λ setup. Moves stack_job setup (first_start stack_job setup)) plan → OnRefused Speaks o → Speaks plan
+    by (Accepted setup) moves refused = subst Speaks (sym moves.same) (motion_speaks setup moves.frames)
+    by (Refused refusal) same refused = subst Speaks (sym same) refused
+
+stack_ends : (old new : World) (plan : Plan) (result : Result ℕ End) → Speaks plan → Follows plan result old new → IsStackStatus (status_of result)
+stack_ends old new plan (Ok status) speaks h = subst IsStackStatus (sym h.1.owed) speaks.owed
+stack_ends old new plan (Err (ends.Refused status)) speaks h = subst IsStackStatus (sym h.1.owed) speaks.owed
+stack_ends old new plan (Err (ends.Stopped stops.Read)) speaks h = absurd (not_read plan.acts speaks.only h)
+stack_ends old new plan (Err (ends.Stopped stops.Write)) speaks h = absurd (not_written plan.acts speaks.only h)
+stack_ends old new plan (Err (ends.Stopped stops.Console)) speaks h = refl
+stack_ends old new plan (Err (ends.Stopped stops.Memory)) speaks h = refl
+
+pub stack_status : {old new : World} (words : List (List ℕ)) (blocks : ℕ) (result : Result ℕ End) → Obeys (CallsFor words) result old new → command_of words ≡ Some (RunStack blocks) → IsStackStatus (status_of result)
+stack_status {old} {new} words blocks result done e =
+    let calls : StackCallsFor blocks done.plan = subst (λ (c : Option Command). CommandCallsFor c done.seen done.plan) e done.called.by_command in
+    stack_ends old new done.plan result (stack_speaks blocks done.plan calls) done.follows
+
+pub stack_not_ten : {old new : World} (blocks : ℕ) (result : Result ℕ End) → Obeys (CommandCallsFor (Some (RunStack blocks))) result old new → status_of result ≡ 10 → ⊥
+stack_not_ten {old} {new} blocks result done e = cc (subst IsStackStatus e (stack_ends old new done.plan result (stack_speaks blocks done.plan done.called) done.follows))
 
 -- ---- where nothing fails
 

@@ -1,24 +1,27 @@
 -- Frames one after another: those that were shown, and those to come.
-use Rattle.std.proofs.Common.{◌≡◌, ℕ, suc, ◌+◌, ◌≤◌, ◌<◌, Bool, true, List, [], ◌∷◌, ◌++◌, length, ◌&&◌, refl, ap, sym, subst, ◌∙◌, append_assoc, append-nil, length-append, arith, Result, Ok, Err, IsErrAnd}
+use Rattle.std.proofs.Common.{◌≡◌, ℕ, suc, ◌+◌, ◌≤◌, ◌<◌, Bool, true, List, [], ◌∷◌, ◌++◌, length, ◌&&◌, refl, ap, sym, subst, ◌∙◌, append_assoc, append-nil, length-append, arith, Option, Some, None, option_map, Result, Ok, Err, IsErrAnd}
 use Rattle.std.specs.List.{list_all}
+use Rattle.std.specs.Option.{is_some, option_map_or}
 use Rattle.std.proofs.lemmas.List.Folds.{list_all-append}
 use Rattle.std.proofs.Math.Bool.{and-true}
 use Rattle.space3.specs.declared.vectors.V3.{V3}
 use Rattle.surface_mesh.specs.declared.setup.Setup.{Setup}
 use Rattle.surface_mesh.specs.declared.materials.Numbers.{Numbers}
-use Rattle.msh_text.specs.Frame.{frame_text}
-use Rattle.frame_driver.specs.declared.end.FrameEnd.{FrameEnd}
+use Rattle.line_search.specs.declared.end.FrameEnd.{FrameEnd}
+use Rattle.line_search.specs.declared.step.Step.{Step}
+use Rattle.report_text.specs.declared.line.Line.TheVariants as lines
+use Rattle.report_text.specs.Traces.{trace_text}
 use Rattle.frame_driver.specs.Frames.{Frame, last_after}
 use Rattle.frame_driver.specs.Sims.{SimState, Advances}
+use Rattle.frame_driver.specs.Calls.Descents.{notes_of}
 use Rattle.frame_driver.proofs.Reached.{now_after}
 use Rattle.frame_driver.proofs.SimPaths.{FramesOf, advance_passes, state_after, state_after-append}
 use Rattle.ipc_top.specs.declared.acts.Stop.{Stop}
 use Rattle.ipc_top.specs.Acts.{Act, Put, Say, World, Did, Stops, IsDue}
 use Rattle.ipc_top.specs.Jobs.{Job}
-use Rattle.ipc_top.specs.Lines.{frame_line}
-use Rattle.ipc_top.specs.Moves.{frame_name, acts_of_frame, acts_of_frames, is_converged}
+use Rattle.ipc_top.specs.Moves.{acts_of_frame, acts_of_frames, acts_showing, frame_put, is_converged, sum_said, trace_name, trace_put}
 use Rattle.ipc_top.specs.Calls.Frames.{AreNext, ShowsFrames}
-use Rattle.ipc_top.proofs.ActsDone.{did_after, stops_after, stops_before, due_first, did_nothing}
+use Rattle.ipc_top.proofs.ActsDone.{did_after, stops_after, stops_before, due_before, due_in, did_nothing}
 
 -- all of these frames converged
 abbrev pub all_converged : List Frame → Bool
@@ -146,21 +149,44 @@ shows_stopped {old = old} {new = new} job setup now frames (Err e) is stops =
 
 -- ---- one frame
 
--- the acts of a frame that was computed
-pub acts_are : (job : Job) (old new : SimState) (number : ℕ) (end : FrameEnd) (frame : Frame) (name text line : List ℕ) → Advances end old new → AreNext old 1 (frame ∷ []) → name ≡ frame_name job.out number → text ≡ frame_text new.setup.mesh new.places job.digits → line ≡ frame_line number end → Put name text ∷ Say line ∷ [] ≡ acts_of_frame job old.setup number old.places frame
-acts_are job old new number end frame name text line h next by_name by_text by_line =
+-- a trace goes to a file with the steps that are kept, or to none
+trace_of_notes : (job : Job) (setup : Setup) (number : ℕ) (keep : Bool) (steps : List Step) (end : FrameEnd) → keep ≡ is_some job.trace → trace_put job setup number (notes_of keep steps) end ≡ trace_put job setup number steps end
+trace_of_notes job setup number keep steps end kept = by job.trace kept
+  where
+    put : List Step → Option (List ℕ) → List Act
+    put noted trace = option_map_or (λ name. Put (trace_name name number) (trace_text setup.mesh number noted end) ∷ []) trace []
+
+    by : (trace : Option (List ℕ)) → keep ≡ is_some trace → put (notes_of keep steps) trace ≡ put steps trace
+    by None e = refl
+    by (Some name) e = ap (λ (k : Bool). put (notes_of k steps) (Some name)) e
+
+-- the acts that show where a simulation stands after a frame are those of the frame
+pub acts_are : (held : Numbers → Job) (old new : SimState) (number : ℕ) (end : FrameEnd) (frame : Frame) → Advances end old new → AreNext old 1 (frame ∷ []) → old.keep ≡ is_some (held old.setup.numbers).trace
+    → acts_showing (held new.setup.numbers) new.setup number new.places new.notes end ≡ acts_of_frame (held old.setup.numbers) old.setup number old.places frame
+acts_are held old new number end frame h next kept =
     let passes = advance_passes end old new frame [] h next.path in
-    let whole : text ≡ frame_text old.setup.mesh (last_after old.places frame.steps) job.digits =
-    by_text ∙ (λ i. frame_text (passes.stands i).setup.mesh (passes.stands i).places job.digits) in
-    let said : line ≡ frame_line number frame.end = by_line ∙ ap (frame_line number) passes.same_end in
-    λ i. Put (by_name i) (whole i) ∷ Say (said i) ∷ []
+    let job = held old.setup.numbers in
+    let last = last_after old.places frame.steps in
+    (λ i. acts_showing (held (passes.stands i).setup.numbers) (passes.stands i).setup number (passes.stands i).places (passes.stands i).notes (passes.same_end i))
+    ∙ ap (λ (acts : List Act). (frame_put job old.setup number last ++ acts) ++ Say (lines.Frame number frame.end) ∷ sum_said job last) (trace_of_notes job old.setup number old.keep frame.steps frame.end kept)
+
+-- a name is given, as the code holds it
+pub is_given : {X Y : Type 0} (f : X → Y) (name : Option X) → is_some (option_map f name) ≡ is_some name
+is_given f None = refl
+is_given f (Some x) = refl
+
+-- the acts of a frame are due
+pub frame_due : (job : Job) (setup : Setup) (number : ℕ) (now : List V3) (frame : Frame) → IsDue (acts_of_frame job setup number now frame)
+frame_due job setup number now frame =
+    let last = last_after now frame.steps in
+    due_in (frame_put job setup number last ++ trace_put job setup number frame.steps frame.end) (Say (lines.Frame number frame.end)) (sum_said job last)
 
 -- ---- frames that are to come
 
 -- where there are some, an act is due
 pub frames_due : (job : Job) (setup : Setup) (number : ℕ) (now : List V3) (frames : List Frame) (count : ℕ) → length frames ≡ count → ¬ (count ≡ 0) → IsDue (acts_of_frames job setup number now frames)
 frames_due job setup number now [] count many some = absurd (some (sym many))
-frames_due job setup number now (frame ∷ frames) count many some = due_first _ _
+frames_due job setup number now (frame ∷ frames) count many some = due_before (acts_of_frames job setup (number + 1) (last_after now frame.steps) frames) (frame_due job setup number now frame)
 
 -- where there are none, none is due
 pub no_frames : (frames : List Frame) (count : ℕ) → length frames ≡ count → count ≡ 0 → frames ≡ []

@@ -6,7 +6,8 @@ pub mod MotionsShown
 pub mod Obeying
 pub mod OnePlan
 pub mod Outcomes
+pub mod PlaceSums
 pub mod PlansEnded
+pub mod SafePlans
 pub mod SomeFiles
 pub mod Taking
-pub mod SafePlans

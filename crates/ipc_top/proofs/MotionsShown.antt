@@ -2,6 +2,7 @@
 use Rattle.std.proofs.Common.{◌≡◌, ◌∙◌, ℕ, ℤ, List, ◌∷◌, length, refl, ap, sym, subst, Bool, true, false, Result, Ok, Err, IsErrAnd}
 use Rattle.std.specs.Prelude.{if◌then◌else◌}
 use Rattle.surface_mesh.specs.declared.setup.Setup.{Setup}
+use Rattle.report_text.specs.declared.line.Line.TheVariants as lines
 use Rattle.frame_driver.specs.Frames.{Frame}
 use Rattle.frame_driver.specs.Sims.{SimState, start_of}
 use Rattle.ipc_top.specs.declared.acts.Stop.{Stop}
@@ -11,7 +12,6 @@ use Rattle.ipc_top.specs.declared.refusals.End.TheVariants as ends
 use Rattle.ipc_top.specs.Acts.{Act, Say, World, Did, Stops}
 use Rattle.ipc_top.specs.Ends.{IsPlain}
 use Rattle.ipc_top.specs.Jobs.{Job}
-use Rattle.ipc_top.specs.Lines.{accepted_line}
 use Rattle.ipc_top.specs.Moves.{AreFrames, Moves, first_start, acts_of_frames, motion_plan}
 use Rattle.ipc_top.specs.Plans.{Plan}
 use Rattle.ipc_top.specs.Calls.Frames.{AreNext, ShowsFrames}
@@ -34,11 +34,11 @@ shown_nothing job setup frames result w many some is =
     shows_stopped job setup setup.mesh.places frames result is (nothing_done (acts_of_frames job setup 1 setup.mesh.places frames) w (frames_due job setup 1 setup.mesh.places frames job.frames many some))
 
 -- the frames of a simulation that stands at the start
-pub shown_from_start : {old new : World} (held : Setup → Job) (setup : Setup) (tol : ℤ) (sim : SimState) (frames : List Frame) (result : Result Bool Stop) → sim ≡ start_of setup tol (held setup).budget → tol ≡ (held setup).tol → AreFrames (held setup) setup (first_start (held setup) setup) frames
+pub shown_from_start : {old new : World} (held : Setup → Job) (setup : Setup) (tol : ℤ) (keep : Bool) (sim : SimState) (frames : List Frame) (result : Result Bool Stop) → sim ≡ start_of setup tol (held setup).budget keep → tol ≡ (held setup).tol → AreFrames (held setup) setup (first_start (held setup) setup) frames
     → ((fs : List Frame) → AreNext sim (held setup).frames fs → ShowsFrames (held sim.setup) sim.setup sim.places fs result old new) → ShowsFrames (held setup) setup setup.mesh.places frames result old new
-shown_from_start {old} {new} held setup tol sim frames result e tol-is are shows =
+shown_from_start {old} {new} held setup tol keep sim frames result e tol-is are shows =
     let job = held setup in
-    let start : sim ≡ start_of setup job.tol job.budget = e ∙ ap (λ (t : ℤ). start_of setup t job.budget) tol-is in
+    let start : sim ≡ start_of setup job.tol job.budget keep = e ∙ ap (λ (t : ℤ). start_of setup t job.budget keep) tol-is in
     subst (λ (s : SimState). ((fs : List Frame) → AreNext s job.frames fs → ShowsFrames (held s.setup) s.setup s.places fs result old new) → ShowsFrames job setup setup.mesh.places frames result old new) (sym start)
     (λ from. from frames (record { many = are.count; path = are.path })) shows
 
@@ -46,7 +46,7 @@ shown_from_start {old} {new} held setup tol sim frames result e tol-is are shows
 
 -- the acts of the start
 abbrev pub start_acts : Job → Setup → List Act
-start_acts job setup = Say (accepted_line (length setup.mesh.numbers) (length setup.mesh.tets)) ∷ (first_start job setup).shown
+start_acts job setup = Say (lines.Accepted (length setup.mesh.numbers) (length setup.mesh.tets)) ∷ (first_start job setup).shown
 
 -- the plan of these frames
 abbrev pub shown_plan : Job → Setup → List Frame → Plan

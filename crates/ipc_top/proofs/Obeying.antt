@@ -1,6 +1,7 @@
 -- How jobs and commands obey the words.
-use Rattle.std.proofs.Common.{◌≡◌, ℕ, ℤ, refl, ap, sym, subst, List, [], ◌∷◌, Option, Some, None, Result, Ok, Err, IsErrAnd}
+use Rattle.std.proofs.Common.{◌≡◌, ◌∙◌, ℕ, ℤ, refl, ap, sym, subst, List, [], ◌∷◌, Option, Some, None, Result, Ok, Err, IsErrAnd}
 use Rattle.shelf_io.specs.Shelf.{Files, IsIfTold}
+use Rattle.space3.specs.declared.mesh.Mesh.{Mesh}
 use Rattle.surface_mesh.specs.declared.setup.Setup.{Setup}
 use Rattle.surface_mesh.specs.declared.materials.Numbers.{Numbers}
 use Rattle.scene_toml.specs.declared.scene.Scene.{Scene}
@@ -8,19 +9,23 @@ use Rattle.ipc_top.specs.declared.mesh.TheConstants.{MESH_LIMIT}
 use Rattle.ipc_top.specs.declared.scene.TheConstants.{SCENE_LIMIT}
 use Rattle.ipc_top.specs.declared.refusals.End.{End}
 use Rattle.ipc_top.specs.Acts.{Take, World}
-use Rattle.ipc_top.specs.CallsFor.{SceneMeans, JobCallsFor, CommandCallsFor, CallsFor, usage_plan}
-use Rattle.ipc_top.specs.Commands.{Command, Check, RunScene, command_of}
+use Rattle.work_gen.specs.Stack.{stack_mesh, stack_scene}
+use Rattle.ipc_top.specs.declared.acts.Stop.TheVariants as stops
+use Rattle.ipc_top.specs.declared.refusals.End.TheVariants as ends
+use Rattle.ipc_top.specs.CallsFor.{SceneMeans, JobCallsFor, CommandCallsFor, CallsFor, StackCallsFor, usage_plan}
+use Rattle.ipc_top.specs.Commands.{Command, Check, RunScene, RunStack, command_of}
 use Rattle.ipc_top.specs.Files.{Outcome, FileMeans, Continues}
-use Rattle.ipc_top.specs.Jobs.{Job, check_numbers, check_job, scene_job}
-use Rattle.ipc_top.specs.Meshes.{MeshMeans}
+use Rattle.ipc_top.specs.Jobs.{Job, check_numbers, check_job, scene_job, stack_job}
+use Rattle.ipc_top.specs.Meshes.{MeshMakes, MeshMeans}
 use Rattle.ipc_top.specs.Moves.{Moves, first_start}
 use Rattle.ipc_top.specs.Plans.{Plan, then_plan}
 use Rattle.ipc_top.specs.Roles as roles
 use Rattle.ipc_top.specs.Roles.{Role, Seen, everywhere}
-use Rattle.ipc_top.specs.Calls.Files.{Takes}
+use Rattle.ipc_top.specs.Calls.Files.{LooksThrough, Takes}
 use Rattle.ipc_top.specs.Calls.Plans.{Follows, FollowsOne, Obeys}
-use Rattle.ipc_top.proofs.OnePlan.{some_moves, some_job_plan, some_rest}
-use Rattle.ipc_top.proofs.Outcomes.{file_accepted}
+use Rattle.ipc_top.proofs.ActsDone.{nothing_done}
+use Rattle.ipc_top.proofs.OnePlan.{some_moves, some_job_plan, some_rest, some_stack_plan}
+use Rattle.ipc_top.proofs.Outcomes.{file_accepted, made}
 use Rattle.ipc_top.proofs.PlansEnded.{follows_then, follows_end}
 use Rattle.ipc_top.proofs.SomeFiles.{files_with, files_with-told, file_with, told_before}
 
@@ -57,7 +62,7 @@ job_moved {old} {mid} {new} job setup result taken moved =
     let files = files_with old.shelf.files job.mesh taken.file in
     let there = file_with old.shelf.files job.mesh taken.file taken.told in
     let found = file_accepted job.mesh MESH_LIMIT job taken.file taken.outcome setup taken.means taken.answers.0 in
-    let numbers : setup.numbers ≡ job.numbers = ap (λ (s : Setup). s.numbers) found.1.built in
+    let numbers : setup.numbers ≡ job.numbers = ap (λ (s : Setup). s.numbers) found.1.made.built in
     let called : next_of job setup moved.plan = subst (λ (n : Numbers). next_of (record job { numbers = n }) setup moved.plan) numbers moved.called in
     record {
       seen = everywhere files;
@@ -126,13 +131,58 @@ scene_done {old} {mid} {new} name scene result taken done =
     }
 
 -- the same job, as the code holds it
-pub job_named : {old new : World} (job : Job) (mesh out : List ℕ) (tol : ℤ) (result : Result ℕ End) → mesh ≡ job.mesh → out ≡ job.out → tol ≡ job.tol → Obeys (JobCallsFor (record job { mesh = mesh; out = out; tol = tol })) result old new → Obeys (JobCallsFor job) result old new
-job_named {old} {new} job mesh out tol result e h t ends = subst (λ (j : Job). Obeys (JobCallsFor j) result old new) (λ i. record job { mesh = e i; out = h i; tol = t i }) ends
+pub job_named : {old new : World} (job : Job) (mesh : List ℕ) (out trace : Option (List ℕ)) (tol : ℤ) (result : Result ℕ End) → mesh ≡ job.mesh → out ≡ job.out → trace ≡ job.trace → tol ≡ job.tol
+    → Obeys (JobCallsFor (record job { mesh = mesh; out = out; trace = trace; tol = tol })) result old new → Obeys (JobCallsFor job) result old new
+job_named {old} {new} job mesh out trace tol result e h k t ends = subst (λ (j : Job). Obeys (JobCallsFor j) result old new) (λ i. record job { mesh = e i; out = h i; trace = k i; tol = t i }) ends
 
 -- ---- a check is a job
 
 pub check_done : {old new : World} (digits : ℕ) (mesh out : List ℕ) (numbers : Numbers) (result : Result ℕ End) → numbers ≡ check_numbers → Obeys (JobCallsFor (record (check_job digits mesh out) { numbers = numbers })) result old new → Obeys (CommandCallsFor (Some (Check digits mesh out))) result old new
 check_done {old} {new} digits mesh out numbers result e done = subst (λ (n : Numbers). Obeys (JobCallsFor (record (check_job digits mesh out) { numbers = n })) result old new) e done
+
+-- ---- the stated stack
+
+-- a plan that it calls for was followed
+stack_obeyed : {old new : World} (blocks : ℕ) (plan : Plan) (result : Result ℕ End) → StackCallsFor blocks plan → Follows plan result old new → Obeys (CommandCallsFor (Some (RunStack blocks))) result old new
+stack_obeyed {old} blocks plan result called follows = record {
+  seen = everywhere (files_with old.shelf.files [] None);
+  told = λ role. files_with-told old.shelf.files [] None;
+  plan = plan;
+  called = called;
+  follows = follows;
+}
+
+-- memory for it was wanting
+pub stack_not_made : (blocks : ℕ) (w : World) → Obeys (CommandCallsFor (Some (RunStack blocks))) (Err (ends.Stopped stops.Memory)) w w
+stack_not_made blocks w = let some = some_stack_plan blocks in stack_obeyed blocks some.plan (Err (ends.Stopped stops.Memory)) some.called (nothing_done some.plan.acts w some.due)
+
+-- what its mesh makes, as the code holds it
+same_making : (blocks : ℕ) (scene : Scene) (mesh : Mesh) (o : Outcome Setup) → scene ≡ stack_scene → mesh ≡ stack_mesh blocks → MeshMakes scene.numbers mesh o → MeshMakes stack_job.numbers (stack_mesh blocks) o
+same_making blocks scene mesh o e h makes = subst (λ (m : Mesh). MeshMakes stack_job.numbers m o) h (subst (λ (s : Scene). MeshMakes s.numbers mesh o) e makes)
+
+-- it was refused, or its refusal was stopped
+pub stack_ended : {old new : World} (blocks : ℕ) (scene : Scene) (mesh : Mesh) (end : End) (result : Result ℕ End) → IsErrAnd result (λ e. e ≡ end) → scene ≡ stack_scene → mesh ≡ stack_mesh blocks
+    → LooksThrough (MeshMakes scene.numbers mesh) (Err end) old new → Obeys (CommandCallsFor (Some (RunStack blocks))) result old new
+stack_ended {old} {new} blocks scene mesh end result is e h looked =
+    let rest = some_rest looked.outcome (next_of stack_job) (λ setup. some_moves stack_job setup (first_start stack_job setup)) in
+    stack_obeyed blocks rest.plan result (record { outcome = looked.outcome; makes = same_making blocks scene mesh looked.outcome e h looked.means; continues = rest.continues })
+    (follows_end old new rest.plan end result is (looked.answers rest.plan rest.may))
+
+-- its bodies moved on
+pub stack_moved : {old mid new : World} (blocks : ℕ) (scene : Scene) (mesh : Mesh) (name : List ℕ) (tol : ℤ) (setup : Setup) (result : Result ℕ End) → scene ≡ stack_scene → mesh ≡ stack_mesh blocks → name ≡ scene.mesh → tol ≡ scene.tol
+    → LooksThrough (MeshMakes scene.numbers mesh) (Ok setup) old mid → FollowsOne (next_of (record (scene_job scene) { mesh = name; out = None; trace = None; tol = tol; numbers = setup.numbers }) setup) result mid new
+    → Obeys (CommandCallsFor (Some (RunStack blocks))) result old new
+stack_moved {old} {mid} {new} blocks scene mesh name tol setup result e h named same_tol looked moved =
+    let makes : MeshMakes stack_job.numbers (stack_mesh blocks) looked.outcome = same_making blocks scene mesh looked.outcome e h looked.means in
+    let found = made stack_job.numbers (stack_mesh blocks) looked.outcome setup makes looked.answers.0 in
+    let numbers : setup.numbers ≡ stack_job.numbers = ap (λ (s : Setup). s.numbers) found.built in
+    let job : record (scene_job scene) { mesh = name; out = None; trace = None; tol = tol; numbers = setup.numbers } ≡ stack_job =
+    (λ i. record (scene_job scene) { mesh = named i; out = None; trace = None; tol = same_tol i; numbers = numbers i })
+    ∙ ap (λ (s : Scene). record (scene_job s) { out = None; trace = None; numbers = stack_job.numbers }) e in
+    let called : next_of stack_job setup moved.plan = subst (λ (j : Job). next_of j setup moved.plan) job moved.called in
+    stack_obeyed blocks moved.plan result
+    (record { outcome = looked.outcome; makes = makes; continues = subst (λ (o : Outcome Setup). Continues o (next_of stack_job) moved.plan) (sym looked.answers.0) called })
+    (follows_then [] moved.plan result old mid new looked.answers.1 moved.follows)
 
 -- ---- words
 

@@ -8,10 +8,11 @@ use Rattle.frame_driver.proofs.OnePath.{one_path_from}
 use Rattle.ipc_top.specs.declared.mesh.TheConstants.{MESH_LIMIT}
 use Rattle.ipc_top.specs.declared.scene.TheConstants.{SCENE_LIMIT}
 use Rattle.ipc_top.specs.Acts.{Take, IsDue}
-use Rattle.ipc_top.specs.CallsFor.{SceneMeans, JobCallsFor, CommandCallsFor, CallsFor}
-use Rattle.ipc_top.specs.Commands.{Command, Check, RunScene, command_of}
+use Rattle.work_gen.specs.Stack.{stack_mesh}
+use Rattle.ipc_top.specs.CallsFor.{SceneMeans, JobCallsFor, CommandCallsFor, StackCallsFor, CallsFor}
+use Rattle.ipc_top.specs.Commands.{Command, Check, RunScene, RunStack, command_of}
 use Rattle.ipc_top.specs.Files.{Outcome, Accepted, Refused, Continues, TakesFile}
-use Rattle.ipc_top.specs.Jobs.{Job, check_job, scene_job}
+use Rattle.ipc_top.specs.Jobs.{Job, check_job, scene_job, stack_job}
 use Rattle.ipc_top.specs.Meshes.{MeshMeans}
 use Rattle.ipc_top.specs.Motions.{Start}
 use Rattle.ipc_top.specs.Moves.{Moves, AreFrames, first_start, motion_plan}
@@ -20,7 +21,8 @@ use Rattle.ipc_top.specs.Roles as roles
 use Rattle.ipc_top.specs.Roles.{Seen}
 use Rattle.ipc_top.specs.Calls.Files.{MayFollow}
 use Rattle.ipc_top.proofs.ActsDone.{due_first}
-use Rattle.ipc_top.proofs.Outcomes.{one_outcome, some_outcome, one_mesh_outcome, some_mesh}
+use Rattle.ipc_top.proofs.Taking.{due_of}
+use Rattle.ipc_top.proofs.Outcomes.{makes_texts, one_making, one_outcome, some_making, some_outcome, one_mesh_outcome, some_mesh}
 
 -- ---- one plan
 
@@ -45,11 +47,18 @@ one_job_plan : (job : Job) (seen : Seen) (a b : Plan) → JobCallsFor job seen a
 one_job_plan job seen =
     one_taking job.mesh MESH_LIMIT (MeshMeans job) (get (seen roles.Mesh) job.mesh) (λ setup. Moves job setup (first_start job setup)) (one_mesh_outcome job) (λ setup. one_moves job setup (first_start job setup))
 
+one_stack_plan : (blocks : ℕ) (a b : Plan) → StackCallsFor blocks a → StackCallsFor blocks b → a ≡ b
+one_stack_plan blocks a b p q =
+    let next = λ (setup : Setup). Moves stack_job setup (first_start stack_job setup) in
+    let outcome : p.outcome ≡ q.outcome = one_making stack_job.numbers (stack_mesh blocks) p.outcome q.outcome p.makes q.makes in
+    one_continues q.outcome next (λ setup. one_moves stack_job setup (first_start stack_job setup)) a b (subst (λ (o : Outcome Setup). Continues o next a) outcome p.continues) q.continues
+
 one_command_plan : (command : Option Command) (seen : Seen) (a b : Plan) → CommandCallsFor command seen a → CommandCallsFor command seen b → a ≡ b
 one_command_plan None seen a b p q = p ∙ sym q
 one_command_plan (Some (Check digits mesh out)) seen a b p q = one_job_plan (check_job digits mesh out) seen a b p q
 one_command_plan (Some (RunScene name)) seen a b p q =
     one_taking name SCENE_LIMIT SceneMeans (get (seen roles.Scene) name) (λ scene. JobCallsFor (scene_job scene) seen) (λ bytes x y m n. m ∙ sym n) (λ scene. one_job_plan (scene_job scene) seen) a b p q
+one_command_plan (Some (RunStack blocks)) seen a b p q = one_stack_plan blocks a b p q
 
 pub only_plan : (words : List (List ℕ)) (seen : Seen) (a b : Plan) → CallsFor words seen a → CallsFor words seen b → a ≡ b
 only_plan words seen a b p q = one_command_plan (command_of words) seen a b p.by_command q.by_command
@@ -99,3 +108,13 @@ some_taking name limit Means file Next some_text some_next =
 pub some_job_plan : (job : Job) (seen : Seen) → SomePlan (JobCallsFor job seen)
 some_job_plan job seen =
     some_taking job.mesh MESH_LIMIT (MeshMeans job) (get (seen roles.Mesh) job.mesh) (λ setup. Moves job setup (first_start job setup)) (some_mesh job) (λ setup. some_moves job setup (first_start job setup))
+
+pub some_stack_plan : (blocks : ℕ) → SomePlan (StackCallsFor blocks)
+some_stack_plan blocks =
+    let found = some_making stack_job.numbers (stack_mesh blocks) in
+    let rest = some_rest found.0 (λ setup. Moves stack_job setup (first_start stack_job setup)) (λ setup. some_moves stack_job setup (first_start stack_job setup)) in
+    record {
+      plan = rest.plan;
+      called = record { outcome = found.0; makes = found.1; continues = rest.continues };
+      due = due_of found.0 rest.plan (makes_texts stack_job.numbers (stack_mesh blocks) found.0 found.1) rest.may;
+    }

@@ -21,19 +21,23 @@ use Rattle.mesh_check.proofs.OneDefect.{one_defect, some_defect}
 use Rattle.scene_toml.specs.declared.scene.Scene.{Scene}
 use Rattle.scene_toml.specs.declared.refusal.SceneErr.{SceneErr}
 use Rattle.scene_toml.specs.Scenes.{scene_of_text}
-use Rattle.ipc_top.specs.Acts.{Say}
+use Rattle.report_text.specs.declared.line.Line.TheVariants as lines
+use Rattle.ipc_top.specs.Acts.{Act, Say, World}
 use Rattle.ipc_top.specs.CallsFor.{SceneMeans, scene_outcome}
-use Rattle.ipc_top.specs.Files.{Outcome, Accepted, Refused, FileMeans, Missing, TooLong, Whole}
+use Rattle.ipc_top.specs.Files.{Outcome, Accepted, Refused, FileMeans, Missing, TooLong, Whole, missing_plan, too_long_plan}
 use Rattle.ipc_top.specs.Jobs.{Job}
-use Rattle.ipc_top.specs.Lines.{too_long_line, mesh_refused_line, defect_line, scene_refused_line, surface_refused_line}
+use Rattle.ipc_top.specs.Numbered.{defect_line}
 use Rattle.ipc_top.specs.Meshes.{MeshMakes, NoSurface, Bodies, MeshMeans, NoMesh, OfMesh, SetupMeans, defect_plan, mesh_refused_plan, outcome_of, surface_refused_plan}
-use Rattle.ipc_top.specs.Plans.{Plan, plan_of}
+use Rattle.ipc_top.specs.Plans.{Plan, plan_of, refusal}
 use Rattle.ipc_top.proofs.ActsDone.{due_first}
-use Rattle.ipc_top.proofs.Taking.{OnRefused, IsTextRefusal}
+use Rattle.ipc_top.specs.declared.refusals.End.{End}
+use Rattle.ipc_top.specs.Calls.Files.{LooksThrough}
+use Rattle.ipc_top.specs.Calls.Plans.{Follows}
+use Rattle.ipc_top.proofs.Taking.{OnRefused, IsTextRefusal, looked_refused}
 
 -- ---- a scene
 
-pub scene_refusal : (Q : Plan → Type 0) → ((err : SceneErr) → Q (plan_of (Say (scene_refused_line err) ∷ []) 5)) → (bytes : List ℕ) (o : Outcome Scene) → SceneMeans bytes o → OnRefused Q o
+pub scene_refusal : (Q : Plan → Type 0) → ((err : SceneErr) → Q (refusal (lines.Scene err) 5)) → (bytes : List ℕ) (o : Outcome Scene) → SceneMeans bytes o → OnRefused Q o
 scene_refusal Q q bytes o is = subst (λ (x : Outcome Scene). OnRefused Q x) (sym is) (by (scene_of_text bytes))
   where
     by : (read : Result Scene SceneErr) → OnRefused Q (scene_outcome read)
@@ -41,7 +45,7 @@ scene_refusal Q q bytes o is = subst (λ (x : Outcome Scene). OnRefused Q x) (sy
     by (Err err) = q err
 
 pub scene_texts : (bytes : List ℕ) (o : Outcome Scene) → SceneMeans bytes o → OnRefused IsTextRefusal o
-scene_texts = scene_refusal IsTextRefusal (λ err. record { due = due_first (Say (scene_refused_line err)) []; not_ten = λ e. omega arith })
+scene_texts = scene_refusal IsTextRefusal (λ err. record { due = due_first (Say (lines.Scene err)) []; not_ten = λ e. omega arith })
 
 pub some_scene : (bytes : List ℕ) → (o : Outcome Scene) × SceneMeans bytes o
 some_scene bytes = (scene_outcome (scene_of_text bytes), refl)
@@ -73,12 +77,22 @@ one_setup setup a b m n = m.same ∙ ap (outcome_of setup) (one_defect setup m.f
 
 -- ---- a mesh
 
-makes_refusal : (Q : Plan → Type 0) → ((mesh : Mesh) (err : SurfErr) → Q (surface_refused_plan mesh err)) → ((setup : Setup) (defect : Defect) → Q (defect_plan setup defect)) → (numbers : Numbers) (mesh : Mesh) (o : Outcome Setup) → MeshMakes numbers mesh o → OnRefused Q o
-makes_refusal Q six seven numbers mesh o (NoSurface err refused is) = subst (λ (x : Outcome Setup). OnRefused Q x) (sym is) (six mesh err)
+pub makes_refusal : (Q : Plan → Type 0) → ((mesh : Mesh) (err : SurfErr) → IsSurfaceOutcome mesh (Err err) → Q (surface_refused_plan mesh err)) → ((setup : Setup) (defect : Defect) → Q (defect_plan setup defect)) → (numbers : Numbers) (mesh : Mesh) (o : Outcome Setup) → MeshMakes numbers mesh o → OnRefused Q o
+makes_refusal Q six seven numbers mesh o (NoSurface err refused is) = subst (λ (x : Outcome Setup). OnRefused Q x) (sym is) (six mesh err refused)
 makes_refusal Q six seven numbers mesh o (Bodies surface usable means) = setup_refusal Q seven (setup_of mesh surface numbers) o means
 
-surface_is_told : (mesh : Mesh) (err : SurfErr) → IsTextRefusal (surface_refused_plan mesh err)
-surface_is_told mesh err = record { due = due_first (Say (surface_refused_line mesh err)) []; not_ten = λ e. omega arith }
+surface_is_told : (mesh : Mesh) (err : SurfErr) → IsSurfaceOutcome mesh (Err err) → IsTextRefusal (surface_refused_plan mesh err)
+surface_is_told mesh surfaces.Memory refused = absurd refused
+surface_is_told mesh (surfaces.FaceThrice tets) refused = record { due = due_first _ _; not_ten = λ e. omega arith }
+surface_is_told mesh (surfaces.FaceSame tets) refused = record { due = due_first _ _; not_ten = λ e. omega arith }
+surface_is_told mesh (surfaces.TooManyTriangles count) refused = record { due = due_first _ _; not_ten = λ e. omega arith }
+
+-- a plan of a refusal for a surface ends with 6
+pub surface_six : (Q : Plan → Type 0) → ((acts : List Act) → Q (plan_of acts 6)) → (mesh : Mesh) (err : SurfErr) → Q (surface_refused_plan mesh err)
+surface_six Q six mesh surfaces.Memory = six _
+surface_six Q six mesh (surfaces.FaceThrice tets) = six _
+surface_six Q six mesh (surfaces.FaceSame tets) = six _
+surface_six Q six mesh (surfaces.TooManyTriangles count) = six _
 
 pub makes_texts : (numbers : Numbers) (mesh : Mesh) (o : Outcome Setup) → MeshMakes numbers mesh o → OnRefused IsTextRefusal o
 makes_texts = makes_refusal IsTextRefusal surface_is_told defect_is_told
@@ -100,13 +114,20 @@ surface_of other (Ok surface) = surface
 surface_of other (Err err) = other
 
 -- a refusal for another cause than want of memory is an outcome
-pub refusal_is_outcome : (mesh : Mesh) (err : SurfErr) → (err ≡ surfaces.Memory → ⊥) → Refuses mesh err → IsSurfaceOutcome mesh (Err err)
+refusal_is_outcome : (mesh : Mesh) (err : SurfErr) → (err ≡ surfaces.Memory → ⊥) → Refuses mesh err → IsSurfaceOutcome mesh (Err err)
 refusal_is_outcome mesh surfaces.Memory other refused = absurd (other refl)
 refusal_is_outcome mesh (surfaces.FaceThrice tets) other refused = refused
 refusal_is_outcome mesh (surfaces.FaceSame tets) other refused = refused
 refusal_is_outcome mesh (surfaces.TooManyTriangles count) other refused = refused
 
-one_making : (numbers : Numbers) (mesh : Mesh) (a b : Outcome Setup) → MeshMakes numbers mesh a → MeshMakes numbers mesh b → a ≡ b
+-- a mesh was refused for its surface
+pub surface_refused : {old new : World} (numbers : Numbers) (mesh : Mesh) (err : SurfErr) (plan : Plan) (end : End) → (err ≡ surfaces.Memory → ⊥) → Refuses mesh err → plan ≡ surface_refused_plan mesh err → Follows plan (Err end) old new
+    → LooksThrough (MeshMakes numbers mesh) (Err end) old new
+surface_refused {old} {new} numbers mesh err plan end other refused same follows =
+    looked_refused old new (MeshMakes numbers mesh) (surface_refused_plan mesh err) end (NoSurface err (refusal_is_outcome mesh err other refused) refl)
+    (subst (λ (p : Plan). Follows p (Err end) old new) same follows)
+
+pub one_making : (numbers : Numbers) (mesh : Mesh) (a b : Outcome Setup) → MeshMakes numbers mesh a → MeshMakes numbers mesh b → a ≡ b
 one_making numbers mesh a b (NoSurface err refused is) (NoSurface err' refused' is') =
     let same : err ≡ err' = ap (err_of err) (one_surface_outcome mesh (Err err) (Err err') refused refused') in
     is ∙ ap (λ e. Refused (surface_refused_plan mesh e)) same ∙ sym is'
@@ -124,35 +145,39 @@ one_making numbers mesh a b (Bodies surface usable means) (Bodies surface' usabl
 
 -- ---- a mesh's text
 
-pub mesh_refusal : (Q : Plan → Type 0) → ((fault : MshErr) → Q (mesh_refused_plan fault)) → ((mesh : Mesh) (err : SurfErr) → Q (surface_refused_plan mesh err)) → ((setup : Setup) (defect : Defect) → Q (defect_plan setup defect)) → (job : Job) (bytes : List ℕ) (o : Outcome Setup) → MeshMeans job bytes o → OnRefused Q o
+pub mesh_refusal : (Q : Plan → Type 0) → ((fault : MshErr) → Q (mesh_refused_plan fault)) → ((mesh : Mesh) (err : SurfErr) → IsSurfaceOutcome mesh (Err err) → Q (surface_refused_plan mesh err)) → ((setup : Setup) (defect : Defect) → Q (defect_plan setup defect)) → (job : Job) (bytes : List ℕ) (o : Outcome Setup) → MeshMeans job bytes o → OnRefused Q o
 mesh_refusal Q text six seven job bytes o (NoMesh fault first is) = subst (λ (x : Outcome Setup). OnRefused Q x) (sym is) (text fault)
 mesh_refusal Q text six seven job bytes o (OfMesh mesh means makes) = makes_refusal Q six seven job.numbers mesh o makes
 
 fault_is_told : (fault : MshErr) → IsTextRefusal (mesh_refused_plan fault)
-fault_is_told fault = record { due = due_first (Say (mesh_refused_line fault)) []; not_ten = λ e. omega arith }
+fault_is_told fault = record { due = due_first (Say (lines.MeshText fault)) []; not_ten = λ e. omega arith }
 
 pub mesh_texts : (job : Job) (bytes : List ℕ) (o : Outcome Setup) → MeshMeans job bytes o → OnRefused IsTextRefusal o
 mesh_texts = mesh_refusal IsTextRefusal fault_is_told surface_is_told defect_is_told
 
--- bodies that are accepted are those of the text's mesh and its surface, and have no defect
+-- bodies that are accepted are those of the mesh and its surface, and have no defect
+pub record AreMade (numbers : Numbers) (mesh : Mesh) (setup : Setup) : Type 0 where
+  pub surface : SurfaceLists
+  pub built : setup ≡ setup_of mesh surface numbers
+  pub none : IsFirstDefect setup None
+
+pub made : (numbers : Numbers) (mesh : Mesh) (o : Outcome Setup) (setup : Setup) → MeshMakes numbers mesh o → o ≡ Accepted setup → AreMade numbers mesh setup
+made numbers mesh o setup (NoSurface err refused is) e = absurd cc
+made numbers mesh o setup (Bodies surface usable m) e = by m.found m.first (sym m.same ∙ e)
+  where
+    by : (found : Option Defect) → IsFirstDefect (setup_of mesh surface numbers) found → outcome_of (setup_of mesh surface numbers) found ≡ Accepted setup → AreMade numbers mesh setup
+    by None first e = let same : setup_of mesh surface numbers ≡ setup = cc in record { surface = surface; built = sym same; none = subst (λ (s : Setup). IsFirstDefect s None) same first }
+    by (Some defect) first e = absurd cc
+
+-- the same of a text's mesh
 pub record IsAccepted (job : Job) (bytes : List ℕ) (setup : Setup) : Type 0 where
   pub mesh : Mesh
-  pub surface : SurfaceLists
   pub means : TextMeans bytes job.digits job.snap mesh
-  pub built : setup ≡ setup_of mesh surface job.numbers
-  pub none : IsFirstDefect setup None
+  pub made : AreMade job.numbers mesh setup
 
 pub accepted : (job : Job) (bytes : List ℕ) (o : Outcome Setup) (setup : Setup) → MeshMeans job bytes o → o ≡ Accepted setup → IsAccepted job bytes setup
 accepted job bytes o setup (NoMesh fault first is) e = absurd cc
-accepted job bytes o setup (OfMesh mesh means makes) e = made makes
-  where
-    by : (surface : SurfaceLists) (found : Option Defect) → IsFirstDefect (setup_of mesh surface job.numbers) found → outcome_of (setup_of mesh surface job.numbers) found ≡ Accepted setup → IsAccepted job bytes setup
-    by surface None first e = let same : setup_of mesh surface job.numbers ≡ setup = cc in record { mesh = mesh; surface = surface; means = means; built = sym same; none = subst (λ (s : Setup). IsFirstDefect s None) same first }
-    by surface (Some defect) first e = absurd cc
-
-    made : MeshMakes job.numbers mesh o → IsAccepted job bytes setup
-    made (NoSurface err refused is) = absurd cc
-    made (Bodies surface usable m) = by surface m.found m.first (sym m.same ∙ e)
+accepted job bytes o setup (OfMesh mesh means makes) e = record { mesh = mesh; means = means; made = made job.numbers mesh o setup makes e }
 
 pub one_mesh_outcome : (job : Job) (bytes : List ℕ) (a b : Outcome Setup) → MeshMeans job bytes a → MeshMeans job bytes b → a ≡ b
 one_mesh_outcome job bytes a b (NoMesh fault first is) (NoMesh fault' first' is') =
@@ -173,12 +198,12 @@ some_mesh job bytes = by (means_or_fault_of bytes job.digits job.snap)
 -- ---- a file
 
 pub some_outcome : {X : Type 0} (name : List ℕ) (limit : ℕ) (Means : List ℕ → Outcome X → Type 0) (file : Option (List ℕ)) → ((bytes : List ℕ) → (o : Outcome X) × Means bytes o) → (o : Outcome X) × FileMeans name limit Means file o
-some_outcome {X} name limit Means None some = (Refused (plan_of [] 3), Missing refl refl)
+some_outcome {X} name limit Means None some = (Refused (missing_plan), Missing refl refl)
 some_outcome {X} name limit Means (Some bytes) some = by (dec_le (length bytes) limit)
   where
     by : Dec (length bytes ≤ limit) → (o : Outcome X) × FileMeans name limit Means (Some bytes) o
     by (yes p) = ((some bytes).0, Whole bytes refl p (some bytes).1)
-    by (no p) = (Refused (plan_of (Say (too_long_line name (limit + 1)) ∷ []) 10), TooLong bytes refl (omega (arith, p)) refl)
+    by (no p) = (Refused (too_long_plan name limit), TooLong bytes refl (omega (arith, p)) refl)
 
 clash : (limit : ℕ) (bs bs' : List ℕ) → bs ≡ bs' → limit < length bs → length bs' ≤ limit → ⊥
 clash limit bs bs' same long within = let e = ap length same in omega (arith, e)
@@ -195,7 +220,7 @@ one_outcome name limit Means file one a b (Whole bs p l m) (TooLong bs' q l' is'
 one_outcome name limit Means file one a b (Whole bs p l m) (Whole bs' q l' m') =
     let same : bs ≡ bs' = cc in one bs' a b (subst (λ (x : List ℕ). Means x a) same m) m'
 
-pub file_refusal : {X : Type 0} (Q : Plan → Type 0) (name : List ℕ) (limit : ℕ) (Means : List ℕ → Outcome X → Type 0) (file : Option (List ℕ)) (o : Outcome X) → Q (plan_of [] 3) → Q (plan_of (Say (too_long_line name (limit + 1)) ∷ []) 10) → ((bytes : List ℕ) → Means bytes o → OnRefused Q o) → FileMeans name limit Means file o → OnRefused Q o
+pub file_refusal : {X : Type 0} (Q : Plan → Type 0) (name : List ℕ) (limit : ℕ) (Means : List ℕ → Outcome X → Type 0) (file : Option (List ℕ)) (o : Outcome X) → Q (missing_plan) → Q (too_long_plan name limit) → ((bytes : List ℕ) → Means bytes o → OnRefused Q o) → FileMeans name limit Means file o → OnRefused Q o
 file_refusal {X} Q name limit Means file o three ten text (Missing p is) = subst (λ (x : Outcome X). OnRefused Q x) (sym is) three
 file_refusal {X} Q name limit Means file o three ten text (TooLong bs p l is) = subst (λ (x : Outcome X). OnRefused Q x) (sym is) ten
 file_refusal {X} Q name limit Means file o three ten text (Whole bs p l m) = text bs m

@@ -1,9 +1,10 @@
 -- What words and files call for is safe.
-use Rattle.std.proofs.Common.{◌≡◌, ℕ, ℤ, pos, int_le, ◌<ℤ◌, false, List, Option, Some, None, IfSome, option_map, subst, sym, arith}
+use Rattle.std.proofs.Common.{◌≡◌, ℕ, ℤ, pos, int_le, ◌<ℤ◌, false, List, Option, Some, None, IfSome, length, option_map, subst, sym, arith}
 use Rattle.std.specs.Prelude.{All}
 use Rattle.std.specs.Option.{option_or}
 use Rattle.std.proofs.lemmas.Int.{ints}
 use Rattle.std.proofs.lemmas.List.Elements.{All-map, All-weaker}
+use Rattle.std.proofs.lemmas.List.FromFn.{length-map-range_with_len}
 use Rattle.list_laws.proofs.Elements.{All-map_back}
 use Rattle.space3.specs.declared.lists.Tet.{Tet}
 use Rattle.space3.specs.declared.mesh.Mesh.{Mesh}
@@ -12,7 +13,7 @@ use Rattle.boundary.specs.Surface.{SurfaceLists}
 use Rattle.surface_mesh.specs.declared.materials.Numbers.{Numbers}
 use Rattle.surface_mesh.specs.Safety.{IsSafeAt}
 use Rattle.surface_mesh.specs.declared.setup.Setup.{Setup}
-use Rattle.surface_mesh.specs.Setup.{setup_of, rest_of}
+use Rattle.surface_mesh.specs.Setup.{is_fixed, setup_of, rest_of}
 use Rattle.mesh_check.specs.declared.defects.Defect.TheVariants as defects
 use Rattle.mesh_check.specs.Defects.{IsFirstDefect, first_flaw, first_not_positive, first_thin, first_long, first_heavy}
 use Rattle.mesh_check.proofs.OneDefect.{none_means}
@@ -20,6 +21,8 @@ use Rattle.mesh_check.proofs.StandingPairs.{parts_apart}
 use Rattle.list_laws.proofs.Searches.{none_found}
 use Rattle.frame_driver.specs.Frames.{Frame}
 use Rattle.frame_driver.specs.Paths.{first_before}
+use Rattle.frame_driver.proofs.DownhillPaths.{path_goes_down}
+use Rattle.frame_driver.proofs.HeldNodes.{path_holds}
 use Rattle.frame_driver.proofs.SafePaths.{path_is_safe}
 use Rattle.ipc_top.specs.CallsFor.{CallsFor, CommandCallsFor}
 use Rattle.ipc_top.specs.Commands.{Command, command_of}
@@ -60,7 +63,12 @@ motion_safe : (job : Job) (mesh : Mesh) (surface : SurfaceLists) (frames : List 
 motion_safe job mesh surface frames none are =
     let setup = setup_of mesh surface job.numbers in
     let start : IsSafeAt setup mesh.places = start_is_safe mesh surface job.numbers none in
-    record { at_start = start; on_frames = path_is_safe setup job.tol job.budget mesh.places (first_before setup) frames start are.path }
+    record {
+      at_start = start;
+      on_frames = path_is_safe setup job.tol job.budget mesh.places (first_before setup) frames start are.path;
+      downhill = path_goes_down setup job.tol job.budget mesh.places (first_before setup) frames are.path;
+      held = path_holds setup job.tol job.budget mesh.places (first_before setup) frames (length-map-range_with_len (is_fixed mesh job.numbers) 0 (length mesh.numbers)) are.path;
+    }
 
 -- the motion that a plan shows is safe
 abbrev pub ShowsSafety : Plan → Type 0

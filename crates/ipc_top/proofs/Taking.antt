@@ -4,14 +4,14 @@ use Rattle.std.proofs.Math.Decide.{dec_le}
 use Rattle.std.specs.declared.vec.Vec.{Vec}
 use Rattle.std.specs.FinMap.{get}
 use Rattle.shelf_io.specs.Shelf.{Files}
+use Rattle.report_text.specs.declared.line.Line.TheVariants as lines
 use Rattle.ipc_top.specs.declared.acts.Stop.{Stop}
 use Rattle.ipc_top.specs.declared.acts.Stop.TheVariants as stops
 use Rattle.ipc_top.specs.declared.refusals.End.{End}
 use Rattle.ipc_top.specs.declared.refusals.End.TheVariants as ends
 use Rattle.ipc_top.specs.Acts.{Act, Take, Say, World, Did, Stops, IsDue}
-use Rattle.ipc_top.specs.Files.{Outcome, Accepted, Refused, FileMeans, Missing, TooLong, Whole}
-use Rattle.ipc_top.specs.Lines.{too_long_line}
-use Rattle.ipc_top.specs.Plans.{Plan, plan_of, then_plan}
+use Rattle.ipc_top.specs.Files.{Outcome, Accepted, Refused, FileMeans, Missing, TooLong, Whole, missing_plan, too_long_plan}
+use Rattle.ipc_top.specs.Plans.{Plan, refusal, then_plan}
 use Rattle.ipc_top.specs.Calls.Files.{IsTaken, MayFollow, Answers, Takes, LooksThrough, bytes_of}
 use Rattle.ipc_top.specs.Calls.Plans.{Follows}
 use Rattle.ipc_top.proofs.ActsDone.{did_after, did_same, did_nothing, nothing_done, due_first}
@@ -31,13 +31,13 @@ OnRefused Q (Accepted x) = Unit {0}
 OnRefused Q (Refused plan) = Q plan
 
 -- a plan that may follow has an act
-due_of : {X : Type 0} (outcome : Outcome X) (plan : Plan) → OnRefused IsTextRefusal outcome → MayFollow outcome plan → IsDue plan.acts
+pub due_of : {X : Type 0} (outcome : Outcome X) (plan : Plan) → OnRefused IsTextRefusal outcome → MayFollow outcome plan → IsDue plan.acts
 due_of (Accepted x) plan text may = may
 due_of (Refused refusal) plan text may = subst (λ (p : Plan). IsDue p.acts) (sym may) text.due
 
 -- the outcome of a text isn't refused for its length
 not_ten : {X : Type 0} {old new : World} (outcome : Outcome X) → OnRefused IsTextRefusal outcome → Answers [] outcome (Err (ends.Refused 10)) old new → ⊥
-not_ten (Accepted x) text h = let e = (h (plan_of (Say [] ∷ []) 0) (due_first (Say []) [])).1.owed in omega (arith, e)
+not_ten (Accepted x) text h = let e = (h (refusal lines.Start 0) (due_first (Say lines.Start) [])).1.owed in omega (arith, e)
 not_ten (Refused plan) text h = text.not_ten (sym (h plan refl).1.owed)
 
 -- ---- a text is looked through
@@ -109,8 +109,8 @@ not_taken {X} {old} {new} name limit Means end some texts taken = by taken.means
     }
 
     by : FileMeans name limit (λ bs o. o ≡ Accepted bs) taken.file taken.outcome → Takes name limit Means (Err end) old new
-    by (Missing there is) = refused (plan_of [] 3) is (Missing there refl)
-    by (TooLong bytes there long is) = refused (plan_of (Say (too_long_line name (limit + 1)) ∷ []) 10) is (TooLong bytes there long refl)
+    by (Missing there is) = refused (missing_plan) is (Missing there refl)
+    by (TooLong bytes there long is) = refused (too_long_plan name limit) is (TooLong bytes there long refl)
     by (Whole bytes there within is) = record {
       file = taken.file;
       told = taken.told;
@@ -138,10 +138,10 @@ take_stopped {stop} {old} {new} name limit result is stops =
 
     whole_or_long : (bytes : List ℕ) (file : Option (List ℕ)) → file ≡ Some bytes → IfSome old.shelf.files (λ files. get files name ≡ file) → Dec (length bytes ≤ limit) → Takes name limit (λ bs o. o ≡ Accepted bs) (Err (ends.Stopped stop)) old new
     whole_or_long bytes file there told (yes p) = stopped file (Accepted bytes) told (Whole bytes there p refl)
-    whole_or_long bytes file there told (no p) = stopped file (Refused (plan_of (Say (too_long_line name (limit + 1)) ∷ []) 10)) told (TooLong bytes there (omega (arith, p)) refl)
+    whole_or_long bytes file there told (no p) = stopped file (Refused (too_long_plan name limit)) told (TooLong bytes there (omega (arith, p)) refl)
 
     by : (file : Option (List ℕ)) → IfSome old.shelf.files (λ files. get files name ≡ file) → Takes name limit (λ bs o. o ≡ Accepted bs) (Err (ends.Stopped stop)) old new
-    by None told = stopped None (Refused (plan_of [] 3)) told (Missing refl refl)
+    by None told = stopped None (Refused (missing_plan)) told (Missing refl refl)
     by (Some bytes) told = whole_or_long bytes (Some bytes) refl told (dec_le (length bytes) limit)
 
 -- the same of the bytes as the code holds them
@@ -171,9 +171,9 @@ long_file (Some files) name limit h = by (get files name) refl h
 
 pub take_too_long : {old mid new : World} (name : List ℕ) (limit : ℕ) (end : End) (taken : Option (List ℕ)) → taken ≡ None
     → IfSome old.shelf.files (λ files. IsTaken limit (get files name) taken) → Did (Take name ∷ []) old mid → new.shelf.taken ≡ limit + 1
-    → Follows (plan_of (Say (too_long_line name (limit + 1)) ∷ []) 10) (Err end) mid new → Takes name limit (λ bs o. o ≡ Accepted bs) (Err end) old new
+    → Follows (too_long_plan name limit) (Err end) mid new → Takes name limit (λ bs o. o ≡ Accepted bs) (Err end) old new
 take_too_long {old} {mid} {new} name limit end taken is told did ten follows =
-    let refusal = plan_of (Say (too_long_line name (limit + 1)) ∷ []) 10 in
+    let refusal = too_long_plan name limit in
     let file = long_file old.shelf.files name limit (subst (λ (t : Option (List ℕ)). IfSome old.shelf.files (λ files. IsTaken limit (get files name) t)) is told) in
     record {
       file = Some file.bytes;

@@ -3,15 +3,17 @@ use Rattle.std.specs.Prelude.{◌≡◌, ◌⊎◌, ℕ, false, List, [], ◌∷
 use Rattle.std.specs.FinMap.{insert}
 use Rattle.std.specs.Io.KnownBytes.{append_known}
 use Rattle.shelf_io.specs.Shelf.{Files, ShelfState, SinkState, Rose, IsIfTold, with_file}
+use Rattle.report_text.specs.declared.line.Line.{Line}
+use Rattle.report_text.specs.declared.line.Line.TheVariants as lines
+use Rattle.report_text.specs.Lines.{text_of_line}
 use Rattle.ipc_top.specs.declared.acts.Stop.{Stop}
 use Rattle.ipc_top.specs.declared.acts.Stop.TheVariants as stops
-use Rattle.ipc_top.specs.Lines.{read_fault_line, write_fault_line}
 
 -- a file is read whole, a file is made of a text, a line is said
 pub data Act : Type 0 where
   Take : (name : List ℕ) → Act
   Put : (name text : List ℕ) → Act
-  Say : (line : List ℕ) → Act
+  Say : (line : Line) → Act
 
 -- the files after these acts
 abbrev pub files_after : List Act → Files → Files
@@ -29,7 +31,7 @@ abbrev pub said : List Act → List ℕ
 said [] = []
 said (Take name ∷ acts) = said acts
 said (Put name text ∷ acts) = said acts
-said (Say line ∷ acts) = line ++ said acts
+said (Say line ∷ acts) = text_of_line line ++ said acts
 
 -- the outside of a program
 pub record World : Type 0 where
@@ -89,7 +91,7 @@ pub record WriteFault (due : List Act) (old new : ShelfState) : Type 0 where
   pub read_faults : new.read_faults ≡ old.read_faults
 
 -- a line was due to be said
-pub record LineDue (due : List Act) (line : List ℕ) (old new : ShelfState) : Type 0 where
+pub record LineDue (due : List Act) (line : Line) (old new : ShelfState) : Type 0 where
   pub later : List Act
   pub next : due ≡ Say line ∷ later
   pub stays : ShelfStays old new
@@ -97,27 +99,27 @@ pub record LineDue (due : List Act) (line : List ℕ) (old new : ShelfState) : T
 -- a file could not be read, and the console got the fault's line
 pub record TakeFails (due : List Act) (old new : World) : Type 0 where
   pub fault : ReadFault due old.shelf new.shelf
-  pub written : Wrote (read_fault_line fault.name) old new
+  pub written : Wrote (text_of_line (lines.ReadFault fault.name)) old new
   pub faults : new.console.faults ≡ old.console.faults
 
 -- a file could not be made, and the console got the fault's line
 pub record PutFails (due : List Act) (old new : World) : Type 0 where
   pub fault : WriteFault due old.shelf new.shelf
-  pub written : Wrote (write_fault_line fault.name) old new
+  pub written : Wrote (text_of_line (lines.WriteFault fault.name)) old new
   pub faults : new.console.faults ≡ old.console.faults
 
 -- a line that may be said while these acts are due: the next one, or that of a fault at the next act
-pub data IsLineOf (due : List Act) (old new : ShelfState) (line : List ℕ) : Type 0 where
+pub data IsLineOf (due : List Act) (old new : ShelfState) (line : Line) : Type 0 where
   Next : LineDue due line old new → IsLineOf due old new line
-  Unread : (fault : ReadFault due old new) → line ≡ read_fault_line fault.name → IsLineOf due old new line
-  Unwritten : (fault : WriteFault due old new) → line ≡ write_fault_line fault.name → IsLineOf due old new line
+  Unread : (fault : ReadFault due old new) → line ≡ lines.ReadFault fault.name → IsLineOf due old new line
+  Unwritten : (fault : WriteFault due old new) → line ≡ lines.WriteFault fault.name → IsLineOf due old new line
 
 -- the console failed, and got a front of a line
 pub record SayFails (due : List Act) (old new : World) : Type 0 where
-  pub line : List ℕ
+  pub line : Line
   pub part : ℕ
   pub which : IsLineOf due old.shelf new.shelf line
-  pub written : Wrote (take part line) old new
+  pub written : Wrote (take part (text_of_line line)) old new
   pub rose : Rose old.console.faults new.console.faults
 
 -- an act is due

@@ -1,8 +1,8 @@
 -- Files that are taken, and what comes of them.
 use Rattle.std.specs.Prelude.{◌≡◌, ◌<◌, ◌≤◌, ◌+◌, ℕ, List, [], ◌∷◌, length, Option, Some, None}
-use Rattle.ipc_top.specs.Acts.{Take, Say}
-use Rattle.ipc_top.specs.Lines.{too_long_line}
-use Rattle.ipc_top.specs.Plans.{Plan, plan_of, then_plan}
+use Rattle.report_text.specs.declared.line.Line.TheVariants as lines
+use Rattle.ipc_top.specs.Acts.{Take}
+use Rattle.ipc_top.specs.Plans.{Plan, plan_of, refusal, then_plan}
 
 -- what comes of a file: what it gives, or the plan of its refusal
 pub data Outcome (X : Type 0) : Type 0 where
@@ -15,7 +15,7 @@ missing_plan = plan_of [] 3
 
 -- a file that is longer than its limit is told by a line
 abbrev pub too_long_plan : (name : List ℕ) (limit : ℕ) → Plan
-too_long_plan name limit = plan_of (Say (too_long_line name (limit + 1)) ∷ []) 10
+too_long_plan name limit = refusal (lines.TooLong name (limit + 1)) 10
 
 -- this comes of a file: it isn't there, it is longer than its limit, or what its bytes mean
 pub data FileMeans {X : Type 0} (name : List ℕ) (limit : ℕ) (Means : List ℕ → Outcome X → Type 0) (file : Option (List ℕ)) (outcome : Outcome X) : Type 0 where

@@ -1,17 +1,19 @@
 -- What a command works on: a mesh and how it is read, the numbers of its bodies, and how many frames.
-use Rattle.std.specs.Prelude.{ℕ, ℤ, pos, List, [], false}
+use Rattle.std.specs.Prelude.{ℕ, ℤ, pos, List, [], false, Option, Some, None}
 use Rattle.dec_text.specs.declared.Snap.{Snap}
 use Rattle.dec_text.specs.declared.Snap.TheVariants.{Nearest}
 use Rattle.space3.specs.Vectors.{origin}
 use Rattle.surface_mesh.specs.declared.materials.Numbers.{Numbers}
 use Rattle.scene_toml.specs.declared.scene.Scene.{Scene}
+use Rattle.work_gen.specs.Stack.{stack_scene}
 
--- the mesh file, the name under which frames are written, the grid of both (how many digits, and what is done with
--- coordinates off it), the numbers of the bodies, the tolerance and the budget of each frame, and how many frames
--- follow the start
+-- the mesh file, what the names of the frames' files and of the traces' files begin with, where there are such files, the
+-- grid of mesh and frames (how many digits, and what is done with coordinates off it), the numbers of the bodies, the
+-- tolerance and the budget of each frame, and how many frames follow the start
 pub record Job : Type 0 where
   pub mesh : List ℕ
-  pub out : List ℕ
+  pub out : Option (List ℕ)
+  pub trace : Option (List ℕ)
   pub digits : ℕ
   pub snap : Snap
   pub numbers : Numbers
@@ -26,6 +28,8 @@ check_numbers = record {
   parts = [];
   kappa = pos 1;
   dhat = pos 2;
+  friction = pos 0;
+  slip = pos 1;
   gravity = origin;
 }
 
@@ -33,7 +37,8 @@ check_numbers = record {
 abbrev pub check_job : (digits : ℕ) (mesh out : List ℕ) → Job
 check_job digits mesh out = record {
   mesh = mesh;
-  out = out;
+  out = Some out;
+  trace = None;
   digits = digits;
   snap = Nearest;
   numbers = check_numbers;
@@ -46,7 +51,8 @@ check_job digits mesh out = record {
 abbrev pub scene_job : Scene → Job
 scene_job scene = record {
   mesh = scene.mesh;
-  out = scene.out;
+  out = Some scene.out;
+  trace = scene.trace;
   digits = scene.digits;
   snap = scene.snap;
   numbers = scene.numbers;
@@ -54,3 +60,7 @@ scene_job scene = record {
   budget = scene.budget;
   frames = scene.frames;
 }
+
+-- what the stated stack asks for: a job without files
+abbrev pub stack_job : Job
+stack_job = record (scene_job stack_scene) { out = None }

@@ -5,9 +5,9 @@ pub mod Commands
 pub mod Ends
 pub mod Files
 pub mod Jobs
-pub mod Lines
 pub mod Meshes
 pub mod Motions
 pub mod Moves
+pub mod Numbered
 pub mod Plans
 pub mod Roles

@@ -1,8 +1,9 @@
 -- What comes of a mesh's text.
-use Rattle.std.specs.Prelude.{◌≡◌, ℕ, List, [], ◌∷◌, Option, Ok, Err}
+use Rattle.std.specs.Prelude.{◌≡◌, ℕ, List, [], map, Option, Ok, Err}
 use Rattle.std.specs.Option.{option_map_or}
 use Rattle.space3.specs.declared.mesh.Mesh.{Mesh}
 use Rattle.boundary.specs.declared.refusal.SurfErr.{SurfErr}
+use Rattle.boundary.specs.declared.refusal.SurfErr.TheVariants as surfaces
 use Rattle.boundary.specs.Outcomes.{IsSurfaceOutcome}
 use Rattle.boundary.specs.Surface.{SurfaceLists}
 use Rattle.surface_mesh.specs.declared.setup.Setup.{Setup}
@@ -12,23 +13,26 @@ use Rattle.mesh_check.specs.declared.defects.Defect.{Defect}
 use Rattle.mesh_check.specs.Defects.{IsFirstDefect}
 use Rattle.msh_text.specs.declared.refusal.MshErr.{MshErr}
 use Rattle.msh_text.specs.Texts.{TextMeans, IsTextFault}
-use Rattle.ipc_top.specs.Acts.{Say}
+use Rattle.report_text.specs.declared.line.Line.TheVariants as lines
 use Rattle.ipc_top.specs.Files.{Outcome, Accepted, Refused}
 use Rattle.ipc_top.specs.Jobs.{Job}
-use Rattle.ipc_top.specs.Lines.{mesh_refused_line, defect_line, surface_refused_line}
-use Rattle.ipc_top.specs.Plans.{Plan, plan_of}
+use Rattle.ipc_top.specs.Numbered.{defect_line, tet_number}
+use Rattle.ipc_top.specs.Plans.{Plan, plan_of, refusal}
 
 -- a text is refused for its first fault
 abbrev pub mesh_refused_plan : MshErr → Plan
-mesh_refused_plan fault = plan_of (Say (mesh_refused_line fault) ∷ []) 6
+mesh_refused_plan fault = refusal (lines.MeshText fault) 6
 
--- a mesh is refused for its surface
+-- a mesh is refused for its surface; want of memory is no refusal
 abbrev pub surface_refused_plan : Mesh → SurfErr → Plan
-surface_refused_plan mesh err = plan_of (Say (surface_refused_line mesh err) ∷ []) 6
+surface_refused_plan mesh surfaces.Memory = plan_of [] 6
+surface_refused_plan mesh (surfaces.FaceThrice tets) = refusal (lines.FaceThrice (map (tet_number mesh) tets)) 6
+surface_refused_plan mesh (surfaces.FaceSame tets) = refusal (lines.FaceSame (map (tet_number mesh) tets)) 6
+surface_refused_plan mesh (surfaces.TooManyTriangles count) = refusal (lines.Triangles count) 6
 
 -- bodies are refused for a defect
 abbrev pub defect_plan : Setup → Defect → Plan
-defect_plan setup defect = plan_of (Say (defect_line setup defect) ∷ []) 7
+defect_plan setup defect = refusal (defect_line setup defect) 7
 
 -- bodies are refused for the defect that was found, if there is one
 abbrev pub outcome_of : Setup → Option Defect → Outcome Setup

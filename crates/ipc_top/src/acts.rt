@@ -1,12 +1,15 @@
 //! The acts, each done whole or stopped.
 ghost use Rattle.std.specs.Prelude.{◌≡◌, ◌∷◌, [], ◌≤◌, ◌<◌, ◌+◌, ◌^◌, length, IfOk, IfSome, IfNone, option_map};
 ghost use Rattle.std.specs.FinMap.{get};
+ghost use Rattle.report_text.specs.declared.line.Line.TheVariants as lines;
+ghost use Rattle.report_text.specs.Lines.{text_of_line};
 ghost use Rattle.shelf_io.specs.Shelf.{ShelfState};
 ghost use Rattle.ipc_top.specs.Acts.{Take, Put, Say, world};
 ghost use Rattle.ipc_top.specs.Calls.Acts.{Does};
 ghost use Rattle.ipc_top.specs.Calls.Files.{IsTaken};
 
-use crate::lines::{read_fault_line, write_fault_line};
+use report_text::{Line, line_text};
+use scene_toml::NameText;
 use shelf_io::{ReadErr, Shelf, Sink, read_all, say_all, write_all};
 use std::alloc::{AllocError, Global};
 
@@ -34,15 +37,41 @@ impl From<AllocError> for Stop {
     }
 }
 
+// The text of a line.
+fn text_of(alloc: Global, line: &Line) -> Result<Vec<u8>, AllocError>
+    ensures { IfOk result (λ text. text.items ≡ text_of_line line.now) }
+{
+    let mut text = Vec::new(alloc);
+    line_text(alloc, line, &mut text)?;
+    Ok(text)
+}
+
+/// A name as a line has it.
+pub fn name_text(alloc: Global, name: &str) -> Result<NameText, AllocError>
+    ensures { IfOk result (λ text. text ≡ name.now) }
+{
+    let name = String::from_str(alloc, name)?;
+    Ok(NameText::of_text(name))
+}
+
 /// Says a line.
-pub fn say<C: Sink>(console: &mut C, line: &[u8]) -> Result<(), Stop>
+pub fn say<C: Sink>(alloc: Global, console: &mut C, line: &Line) -> Result<(), Stop>
     ensures { (s : ShelfState) → Does (Say line.now ∷ []) result
         (world s (C.state console.old)) (world s (C.state console.new)) }
 {
-    match say_all(console, line) {
+    let text = text_of(alloc, line)?;
+    match say_all(console, &text) {
         Ok(()) => Ok(()),
         Err(_) => Err(Stop::Console),
     }
+}
+
+// The line of a file that could not be written.
+fn write_fault(alloc: Global, name: &str) -> Result<Vec<u8>, AllocError>
+    ensures { IfOk result (λ text. text.items ≡ text_of_line (lines.WriteFault name.now)) }
+{
+    let name = name_text(alloc, name)?;
+    text_of(alloc, &Line::WriteFault { name })
 }
 
 /// Makes a file of a text. Where the shelf fails, it says so.
@@ -57,7 +86,7 @@ pub fn put<S: Shelf, C: Sink>(
         (world (S.state shelf.old) (C.state console.old))
         (world (S.state shelf.new) (C.state console.new)) }
 {
-    let line = write_fault_line(alloc, name)?;
+    let line = write_fault(alloc, name)?;
     match write_all(shelf, name, text) {
         Ok(()) => Ok(()),
         Err(_) => match say_all(console, &line) {
@@ -65,6 +94,14 @@ pub fn put<S: Shelf, C: Sink>(
             Err(_) => Err(Stop::Console),
         },
     }
+}
+
+// The line of a file that could not be read.
+fn read_fault(alloc: Global, name: &str) -> Result<Vec<u8>, AllocError>
+    ensures { IfOk result (λ text. text.items ≡ text_of_line (lines.ReadFault name.now)) }
+{
+    let name = name_text(alloc, name)?;
+    text_of(alloc, &Line::ReadFault { name })
 }
 
 /// Takes a file, or gives None where it has more than `limit` bytes. Where the shelf fails, it says so. Condition:
@@ -85,7 +122,7 @@ pub fn take<S: Shelf, C: Sink>(
     ensures within { IfOk result (λ taken. IfSome taken (λ v. length v.items ≤ limit)) }
     ensures too_long { IfOk result (λ taken. IfNone taken ((S.state shelf.new).taken ≡ limit + 1)) }
 {
-    let line = read_fault_line(alloc, name)?;
+    let line = read_fault(alloc, name)?;
     match read_all(alloc, shelf, name, limit) {
         Ok(bytes) => Ok(Some(bytes)),
         Err(ReadErr::TooLong { .. }) => Ok(None),

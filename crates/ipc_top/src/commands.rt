@@ -1,5 +1,5 @@
 //! What each command does.
-ghost use Rattle.std.specs.Prelude.{◌≡◌, ◌⊎◌, ◌+◌, Some};
+ghost use Rattle.std.specs.Prelude.{◌≡◌, ◌⊎◌, ◌+◌, Some, option_map};
 ghost use Rattle.surface_mesh.specs.Materials.{AreNumbers};
 ghost use Rattle.ipc_top.specs.Acts.{world};
 ghost use Rattle.ipc_top.specs.CallsFor.{CommandCallsFor};
@@ -7,26 +7,31 @@ ghost use Rattle.ipc_top.specs.Commands as commands;
 ghost use Rattle.ipc_top.specs.Jobs as jobs;
 ghost use Rattle.ipc_top.specs.Calls.Plans.{Obeys, status_of};
 
+use crate::acts::Stop;
+use crate::blocks::Blocks;
 use crate::grids::Digits;
 use crate::job::{Job, do_job};
-use crate::mesh::MESH_LIMIT;
+use crate::mesh::{MESH_LIMIT, bodies_of_mesh};
+use crate::motion::show_motion;
 use crate::refusals::End;
 use crate::scene::{SCENE_LIMIT, take_scene};
 use dec_text::Snap;
+use scene_toml::NameText;
 use shelf_io::{Shelf, Sink};
 use space3::V3;
 use std::alloc::Global;
 use surface_mesh::{Material, Numbers, PartList};
+use work_gen::stack_scene;
 
 /// Checks the mesh of a file, read with so many digits: says its size and writes its frame 0 under the name `out`, or
 /// says why it is refused.
-pub fn check<S: Shelf, C: Sink>(
+pub fn check<'a, S: Shelf, C: Sink>(
     alloc: Global,
     shelf: &mut S,
     console: &mut C,
     digits: Digits,
-    mesh: &str,
-    out: &str,
+    mesh: &'a str,
+    out: &'a str,
 ) -> Result<u8, End>
     ensures obeys { let command = commands.Check digits.count mesh.now out.now in
         Obeys (CommandCallsFor (Some command)) result
@@ -36,7 +41,8 @@ pub fn check<S: Shelf, C: Sink>(
 {
     let job = Job {
         mesh,
-        out,
+        out: Some(out),
+        trace: None,
         digits,
         snap: Snap::Nearest,
         tol: 0,
@@ -64,6 +70,8 @@ fn check_numbers(alloc: Global) -> Numbers
         parts: PartList::of_vec(Vec::new(alloc)),
         kappa: 1,
         dhat: 2,
+        friction: 0,
+        slip: 1,
         gravity: ORIGIN,
     }
 }
@@ -85,7 +93,8 @@ pub fn run<S: Shelf, C: Sink>(
     let numbers = scene.numbers;
     let job = Job {
         mesh: scene.mesh.text(),
-        out: scene.out.text(),
+        out: Some(scene.out.text()),
+        trace: text_of(&scene.trace),
         digits: Digits {
             count: scene.digits,
         },
@@ -95,4 +104,46 @@ pub fn run<S: Shelf, C: Sink>(
         frames: scene.frames,
     };
     do_job(alloc, shelf, console, &job, numbers)
+}
+
+// The text of a name, if there is one.
+fn text_of(name: &Option<NameText>) -> Option<&str>
+    ensures { option_map (λ text. text.now) result ≡ name.now }
+{
+    match name {
+        Some(name) => Some(name.text()),
+        None => None,
+    }
+}
+
+/// Runs the stated stack of so many blocks: says its size, its frames and their sums, or says why it is refused. It takes
+/// no file and makes none.
+pub fn run_stack<S: Shelf, C: Sink>(
+    alloc: Global,
+    shelf: &mut S,
+    console: &mut C,
+    blocks: Blocks,
+) -> Result<u8, End>
+    ensures { Obeys (CommandCallsFor (Some (commands.RunStack blocks.count))) result
+        (world (S.state shelf.old) (C.state console.old))
+        (world (S.state shelf.new) (C.state console.new)) }
+{
+    let Ok((scene, mesh)) = stack_scene(alloc, blocks.count) else {
+        return Err(End::Stopped(Stop::Memory));
+    };
+    let numbers = scene.numbers;
+    let job = Job {
+        mesh: scene.mesh.text(),
+        out: None,
+        trace: None,
+        digits: Digits {
+            count: scene.digits,
+        },
+        snap: scene.snap,
+        tol: scene.tol,
+        budget: scene.budget,
+        frames: scene.frames,
+    };
+    let setup = bodies_of_mesh(alloc, console, mesh, numbers)?;
+    show_motion(alloc, shelf, console, &job, setup)
 }

@@ -1,22 +1,23 @@
 //! The frames of a path, one after another.
 ghost use Rattle.std.specs.Prelude.{◌≡◌, ◌∷◌, [], List, IfOk};
+ghost use Rattle.std.specs.Option.{is_some};
 ghost use Rattle.frame_driver.specs.Frames.{Frame};
 ghost use Rattle.frame_driver.specs.Sims.{Advances};
-ghost use Rattle.ipc_top.specs.Acts.{Put, Say, world};
+ghost use Rattle.ipc_top.specs.Acts.{world};
 ghost use Rattle.ipc_top.specs.Moves.{is_converged};
-ghost use Rattle.ipc_top.specs.Calls.Acts.{Does};
 ghost use Rattle.ipc_top.specs.Calls.Frames.{AreNext, ShowsFrame, ShowsFrames};
 ghost use Rattle.ipc_top.specs.Calls.Jobs.{job_of};
 
-use crate::acts::{Stop, put, say};
-use crate::frame_lines::{frame_line, frame_name, frame_text};
+use crate::acts::Stop;
+use crate::frame_acts::show_acts;
 use crate::job::Job;
-use frame_driver::{FrameEnd, Sim};
+use frame_driver::Sim;
+use line_search::FrameEnd;
 use shelf_io::{Shelf, Sink};
 use std::alloc::Global;
 
-/// Computes the frames of a job, numbered from 1. Each is written and said before the next begins. Answers whether
-/// all converged.
+/// Computes the frames of a job, numbered from 1. Each is shown before the next begins. Answers whether all converged.
+/// The simulation keeps the steps of a frame where traces are wanted.
 pub fn show_frames<S: Shelf, C: Sink>(
     alloc: Global,
     shelf: &mut S,
@@ -24,6 +25,7 @@ pub fn show_frames<S: Shelf, C: Sink>(
     job: &Job,
     sim: &mut Sim,
 ) -> Result<bool, Stop>
+    requires { sim.old.keep ≡ is_some job.now.trace }
     ensures { (frames : List Frame) → AreNext sim.old job.now.frames frames
         → ShowsFrames (job_of job.now sim.old.setup.numbers) sim.old.setup sim.old.places
         frames result
@@ -38,7 +40,7 @@ pub fn show_frames<S: Shelf, C: Sink>(
     Ok(all)
 }
 
-// Computes the frame of this number, writes it and says its line.
+// Computes the frame of this number and shows it.
 fn show_frame<S: Shelf, C: Sink>(
     alloc: Global,
     shelf: &mut S,
@@ -47,6 +49,7 @@ fn show_frame<S: Shelf, C: Sink>(
     sim: &mut Sim,
     number: u32,
 ) -> Result<FrameEnd, Stop>
+    requires { sim.old.keep ≡ is_some job.now.trace }
     ensures does { (frame : Frame) → AreNext sim.old 1 (frame ∷ [])
         → ShowsFrame (job_of job.now sim.old.setup.numbers) sim.old number frame result
         (world (S.state shelf.old) (C.state console.old))
@@ -54,28 +57,8 @@ fn show_frame<S: Shelf, C: Sink>(
     ensures advances { IfOk result (λ end. Advances end sim.old sim.new) }
 {
     let end = sim.frame(alloc)?;
-    let name = frame_name(alloc, job.out, number)?;
-    let text = frame_text(alloc, &sim.setup().mesh, sim.places(), job.digits)?;
-    let line = frame_line(alloc, number, end)?;
-    put_and_say(alloc, shelf, console, &name, &text, &line)?;
+    show_acts(alloc, shelf, console, job, sim, number, end)?;
     Ok(end)
-}
-
-/// Makes a file, and then says a line.
-pub fn put_and_say<S: Shelf, C: Sink>(
-    alloc: Global,
-    shelf: &mut S,
-    console: &mut C,
-    name: &str,
-    text: &[u8],
-    line: &[u8],
-) -> Result<(), Stop>
-    ensures { Does (Put name.now text.now ∷ Say line.now ∷ []) result
-        (world (S.state shelf.old) (C.state console.old))
-        (world (S.state shelf.new) (C.state console.new)) }
-{
-    put(alloc, shelf, console, name, text)?;
-    say(console, line)
 }
 
 fn is_converged(end: FrameEnd) -> bool

@@ -20,8 +20,10 @@ use surface_mesh::Numbers;
 pub struct Job<'a> {
     /// The name of the mesh's file.
     pub mesh: &'a str,
-    /// What the names of the frames' files begin with.
-    pub out: &'a str,
+    /// What the names of the frames' files begin with, where frames go to files.
+    pub out: Option<&'a str>,
+    /// What the names of the traces' files begin with, where traces go to files.
+    pub trace: Option<&'a str>,
     /// A grid unit is 10^-digits of the mesh file's unit.
     pub digits: Digits,
     /// What is done with coordinates of the mesh file that aren't on this grid.

@@ -1,22 +1,27 @@
 //! All that the program does outside, over any shelf and any console.
 //!
 //! `top` is the top call, `words` the command line, `commands` what each command does, `scene` and `mesh` the files that
-//! are taken, `job` what a command works on, `grids` the digits of coordinates, `motion` and `frames` the frames that it
-//! shows, `refusals` what ends a command before, `acts` the single acts, `lines` and `frame_lines` the texts.
+//! are taken, `job` what a command works on, `grids` the digits of coordinates, `blocks` the
+//! blocks of the stated stack, `motion` and `frames` the frames that it
+//! shows, `frame_acts` the acts that show one, `sums` the sums of coordinates, `refusals` what ends a command before, `acts` the single acts, `numbered` the lines
+//! that name tetrahedra and nodes, `frame_files` the names and texts of frames.
 #![tactic(auto)]
 
 mod acts;
+mod blocks;
 mod commands;
 mod files;
-mod frame_lines;
+mod frame_acts;
+mod frame_files;
 mod frames;
 mod grids;
 mod job;
-mod lines;
 mod mesh;
 mod motion;
+mod numbered;
 mod refusals;
 mod scene;
+mod sums;
 mod top;
 mod words;
 

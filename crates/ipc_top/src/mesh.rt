@@ -14,10 +14,12 @@ ghost use Rattle.ipc_top.specs.Calls.Jobs.{AreFit, job_of};
 use crate::acts::Stop;
 use crate::files::take_file;
 use crate::job::Job;
-use crate::refusals::{End, refuse_defect, refuse_mesh, refuse_surface};
+use crate::numbered::{same_line, thrice_line};
+use crate::refusals::{End, refuse, refuse_defect};
 use boundary::{SurfErr, Surface};
 use mesh_check::first_defect;
 use msh_text::{ReadMshErr, read_msh};
+use report_text::Line;
 use shelf_io::{Shelf, Sink};
 use space3::Mesh;
 use std::alloc::Global;
@@ -62,12 +64,17 @@ fn bodies_of_bytes<C: Sink>(
     match read_msh(alloc, bytes, job.digits.count, job.snap) {
         Ok(mesh) => bodies_of_mesh(alloc, console, mesh, numbers),
         Err(ReadMshErr::Memory) => Err(End::Stopped(Stop::Memory)),
-        Err(ReadMshErr::Text(fault)) => Err(refuse_mesh(alloc, console, fault)),
+        Err(ReadMshErr::Text(fault)) => Err(refuse(
+            alloc,
+            console,
+            &Line::MeshText { err: fault },
+            6,
+        )),
     }
 }
 
-// Makes the surface of a mesh, and then its bodies.
-fn bodies_of_mesh<C: Sink>(
+/// Makes the surface of a mesh, and then its bodies, or says why they are refused: 6 for the surface, 7 for a defect.
+pub fn bodies_of_mesh<C: Sink>(
     alloc: Global,
     console: &mut C,
     mesh: Mesh,
@@ -93,9 +100,11 @@ fn end_without_surface<C: Sink>(alloc: Global, console: &mut C, mesh: &Mesh, err
 {
     match err {
         SurfErr::Memory => End::Stopped(Stop::Memory),
-        SurfErr::FaceThrice { .. } => refuse_surface(alloc, console, mesh, err),
-        SurfErr::FaceSame { .. } => refuse_surface(alloc, console, mesh, err),
-        SurfErr::TooManyTriangles { .. } => refuse_surface(alloc, console, mesh, err),
+        SurfErr::FaceThrice { tets } => refuse(alloc, console, &thrice_line(mesh, &tets), 6),
+        SurfErr::FaceSame { tets } => refuse(alloc, console, &same_line(mesh, &tets), 6),
+        SurfErr::TooManyTriangles { count } => {
+            refuse(alloc, console, &Line::Triangles { count }, 6)
+        }
     }
 }
 

@@ -1,9 +1,10 @@
 //! How the bodies of a job move: the start, and the frames that follow it.
 ghost use Rattle.std.specs.Prelude.{◌≡◌, ◌∷◌, length, List, if◌then◌else◌};
+ghost use Rattle.space3.specs.Mesh.{IsSound};
 ghost use Rattle.surface_mesh.specs.Setup.{IsSetup};
 ghost use Rattle.frame_driver.specs.Frames.{Frame};
 ghost use Rattle.ipc_top.specs.Acts.{Say, world};
-ghost use Rattle.ipc_top.specs.Lines.{accepted_line};
+ghost use Rattle.report_text.specs.declared.line.Line.TheVariants as lines;
 ghost use Rattle.ipc_top.specs.Moves.{AreFrames, Moves, first_start};
 ghost use Rattle.ipc_top.specs.Calls.Acts.{Does};
 ghost use Rattle.ipc_top.specs.Calls.Frames.{ShowsFrames};
@@ -11,13 +12,14 @@ ghost use Rattle.ipc_top.specs.Calls.Jobs.{AreFit, job_of};
 ghost use Rattle.ipc_top.specs.Calls.Plans.{FollowsOne};
 
 use crate::acts::{Stop, say};
-use crate::frame_lines::{frame_name, frame_text};
-use crate::frames::{put_and_say, show_frames};
+use crate::frame_acts::put_frame;
+use crate::frames::show_frames;
 use crate::job::Job;
-use crate::lines::{START_LINE, accepted_line};
 use crate::refusals::End;
 use frame_driver::Sim;
+use report_text::Line;
 use shelf_io::{Shelf, Sink};
+use space3::Mesh;
 use std::alloc::Global;
 use surface_mesh::Setup;
 
@@ -59,18 +61,41 @@ fn show_start<S: Shelf, C: Sink>(
 ) -> Result<(), Stop>
     requires { IsSetup setup.now }
     ensures { let mesh = setup.now.mesh in
-        Does (Say (accepted_line (length mesh.numbers) (length mesh.tets))
+        Does (Say (lines.Accepted (length mesh.numbers) (length mesh.tets))
         ∷ (first_start (job_of job.now setup.now.numbers) setup.now).shown) result
         (world (S.state shelf.old) (C.state console.old))
         (world (S.state shelf.new) (C.state console.new)) }
 {
-    let nodes = setup.mesh.numbers.items().len() as u64;
-    let tets = setup.mesh.tets.items().len() as u64;
-    let line = accepted_line(alloc, nodes, tets)?;
-    let name = frame_name(alloc, job.out, 0)?;
-    let text = frame_text(alloc, &setup.mesh, &setup.mesh.places, job.digits)?;
-    say(console, &line)?;
-    put_and_say(alloc, shelf, console, &name, &text, START_LINE)
+    say(alloc, console, &accepted_line(&setup.mesh))?;
+    show_first(alloc, shelf, console, job, setup)
+}
+
+// The line of a mesh that is accepted.
+fn accepted_line(mesh: &Mesh) -> Line
+    requires { IsSound mesh.now }
+    ensures { result ≡ lines.Accepted (length mesh.now.numbers) (length mesh.now.tets) }
+{
+    Line::Accepted {
+        nodes: mesh.numbers.items().len() as u32,
+        tets: mesh.tets.items().len() as u32,
+    }
+}
+
+// Writes frame 0 and says it.
+fn show_first<S: Shelf, C: Sink>(
+    alloc: Global,
+    shelf: &mut S,
+    console: &mut C,
+    job: &Job,
+    setup: &Setup,
+) -> Result<(), Stop>
+    requires { IsSetup setup.now }
+    ensures { Does (first_start (job_of job.now setup.now.numbers) setup.now).shown result
+        (world (S.state shelf.old) (C.state console.old))
+        (world (S.state shelf.new) (C.state console.new)) }
+{
+    put_frame(alloc, shelf, console, job, setup, &setup.mesh.places, 0)?;
+    say(alloc, console, &Line::Start)
 }
 
 // Shows the frames that follow frame 0. Where there are none, no simulation is opened.
@@ -91,6 +116,7 @@ fn show_path<S: Shelf, C: Sink>(
     if job.frames == 0 {
         return Ok(true);
     }
-    let mut sim = Sim::open(alloc, setup, job.tol, job.budget)?;
+    let keep = job.trace.is_some();
+    let mut sim = Sim::open(alloc, setup, job.tol, job.budget, keep)?;
     show_frames(alloc, shelf, console, job, &mut sim)
 }

@@ -8,7 +8,8 @@ ghost use Rattle.ipc_top.specs.Calls.Files.{Takes, LooksThrough};
 
 use crate::acts::Stop;
 use crate::files::take_file;
-use crate::refusals::{End, refuse_scene};
+use crate::refusals::{End, refuse};
+use report_text::Line;
 use scene_toml::{ReadSceneErr, Scene, read_scene};
 use shelf_io::{Shelf, Sink};
 use std::alloc::Global;
@@ -42,6 +43,6 @@ fn scene_of_bytes<C: Sink>(alloc: Global, console: &mut C, bytes: &[u8]) -> Resu
     match read_scene(alloc, bytes) {
         Ok(scene) => Ok(scene),
         Err(ReadSceneErr::Memory) => Err(End::Stopped(Stop::Memory)),
-        Err(ReadSceneErr::Scene(err)) => Err(refuse_scene(alloc, console, &err)),
+        Err(ReadSceneErr::Scene(err)) => Err(refuse(alloc, console, &Line::Scene { err }, 5)),
     }
 }

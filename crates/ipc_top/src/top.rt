@@ -1,9 +1,9 @@
 //! The top call.
-ghost use Rattle.std.specs.Prelude.{◌≡◌, ◌⊎◌, ◌∷◌, [], ◌+◌, List, ℕ, map, None, IfSome, string_bytes};
+ghost use Rattle.std.specs.Prelude.{◌≡◌, ◌⊎◌, ◌∷◌, [], ◌+◌, List, ℕ, map, None, Some, IfSome, string_bytes};
 ghost use Rattle.shelf_io.specs.Shelf.{Files, Rose};
 ghost use Rattle.ipc_top.specs.Acts.{world};
 ghost use Rattle.ipc_top.specs.CallsFor.{CallsFor};
-ghost use Rattle.ipc_top.specs.Commands.{command_of};
+ghost use Rattle.ipc_top.specs.Commands.{RunStack, command_of};
 ghost use Rattle.ipc_top.specs.Ends.{IsOneOf, IsStatus, IsInput, Ends, Completes};
 ghost use Rattle.ipc_top.specs.Motions.{IsSafeThroughout};
 ghost use Rattle.ipc_top.specs.Plans.{Plan};
@@ -11,11 +11,12 @@ ghost use Rattle.ipc_top.specs.Roles.{Seen, everywhere};
 ghost use Rattle.ipc_top.specs.Calls.Plans.{Obeys, status_of};
 
 use crate::acts::Stop;
-use crate::commands::{check, run};
+use crate::commands::{check, run, run_stack};
 use crate::mesh::MESH_LIMIT;
-use crate::refusals::{End, refuse_words};
+use crate::refusals::{End, refuse};
 use crate::scene::SCENE_LIMIT;
 use crate::words::{Command, command_of};
+use report_text::Line;
 use shelf_io::{Shelf, Sink};
 use std::alloc::Global;
 
@@ -23,15 +24,17 @@ use std::alloc::Global;
 ///
 /// `check DIGITS MESH OUT` reads the mesh of a file with so many digits after the point, one from 0 to 9, and writes its
 /// frame 0 to the file `OUT_0000.msh`.
-/// `run SCENE` reads the scene of a file and its mesh, and writes frame 0 and the frames that follow.
+/// `run SCENE` reads the scene of a file and its mesh, and writes frame 0 and the frames that follow, each with its trace
+/// where the scene names one.
+/// `gen N` runs one frame of the stated stack of N blocks, 1 to 512, and says the sums of its coordinates.
 ///
 /// | status | comes |
 /// |---|---|
-/// | 0 | all frames are written, and each that follows frame 0 converged |
-/// | 1 | all frames are written, and some stalled or spent its budget |
+/// | 0 | all frames are shown, and each that follows frame 0 converged |
+/// | 1 | all frames are shown, and some stalled or spent its budget |
 /// | 2 | the words are no command |
 /// | 3 | the shelf failed at a file that was to be read, or has none of that name |
-/// | 4 | the shelf failed at a frame's file |
+/// | 4 | the shelf failed at the file of a frame or of a trace |
 /// | 5 | the scene is refused |
 /// | 6 | the mesh text has a fault, or the mesh has no surface |
 /// | 7 | the mesh has a defect: a tetrahedron that isn't positive, is thin or long, a node that is too heavy, or a pair of parts of the surface that meet |
@@ -61,6 +64,10 @@ pub fn ipc_run<S: Shelf, C: Sink>(
     ensures usage { result ≡ 2 → command_of (map string_bytes words.now) ≡ None }
     ensures no_command { command_of (map string_bytes words.now) ≡ None
         → IsOneOf (2 ∷ 8 ∷ 9 ∷ []) result }
+    // The stated stack takes no file and makes none, so it ends with no status of a file.
+    ensures stack { (blocks : ℕ) →
+        command_of (map string_bytes words.now) ≡ Some (RunStack blocks)
+        → IsOneOf (0 ∷ 1 ∷ 6 ∷ 7 ∷ 8 ∷ 9 ∷ []) result }
     // The causes of the statuses that stop a command: a device failed in this call.
     ensures read { result ≡ 3
         → Rose (S.state shelf.old).read_faults (S.state shelf.new).read_faults }
@@ -97,7 +104,8 @@ fn do_command<S: Shelf, C: Sink>(
             alloc, shelf, console, digits, mesh, out,
         ),
         Some(Command::RunScene { scene }) => run(alloc, shelf, console, scene),
-        None => Err(refuse_words(console)),
+        Some(Command::RunStack { blocks }) => run_stack(alloc, shelf, console, blocks),
+        None => Err(refuse(alloc, console, &Line::Usage, 2)),
     }
 }
 

@@ -1,5 +1,5 @@
 -- What pairs whose boxes touch say of all pairs.
-use Rattle.std.proofs.Common.{◌≡◌, ◌<◌, ℕ, List, false, length, map, get_or, sym, subst, arith}
+use Rattle.std.proofs.Common.{◌≡◌, ◌<◌, ℕ, List, length, get_or, sym, arith}
 use Rattle.std.specs.Prelude.{All, Bool, IsTrue, ◌↔◌}
 use Rattle.std.proofs.lemmas.List.Elements.{All-filter, All-map, All-same}
 use Rattle.list_laws.proofs.Elements.{All-map_back}
@@ -7,7 +7,6 @@ use Rattle.list_laws.proofs.Filters.{All-filter_back}
 use Rattle.space3.specs.declared.vectors.V3.{V3}
 use Rattle.space3.specs.Mesh.{HasNodes}
 use Rattle.safe_motion.specs.declared.depth.TheConstants.{DEPTH}
-use Rattle.safe_motion.specs.Safety.{PartPair}
 use Rattle.boundary.specs.declared.pairs.Pair.{Pair}
 use Rattle.boundary.specs.Pairs.{IsPair, pairs_of, part_pair}
 use Rattle.boundary.specs.Surface.{SurfaceLists}

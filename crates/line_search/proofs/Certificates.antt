@@ -9,7 +9,7 @@ use Rattle.safe_motion.specs.declared.depth.TheConstants.{DEPTH}
 use Rattle.safe_motion.specs.Certificates.{PairCertificate, VolumeCertificate}
 use Rattle.safe_motion.specs.Safety.{PartPair, corners, node_moves}
 use Rattle.surface_mesh.specs.declared.setup.Setup.{Setup}
-use Rattle.surface_mesh.specs.Safety.{IsCertifiedStep, corner_nodes, part_pairs}
+use Rattle.surface_mesh.specs.Safety.{IsCertifiedStep, part_pairs}
 use Rattle.line_search.specs.Calls.Corners.{HasCertificate}
 use Rattle.line_search.specs.Calls.PairCertificates.{IsApart}
 

@@ -6,6 +6,7 @@ use Rattle.space3.specs.Moved.{moved_by}
 use Rattle.surface_mesh.specs.declared.setup.Setup.{Setup}
 use Rattle.potential_sum.specs.Terms.{FrameTerms}
 use Rattle.potential_sum.specs.Potential.{potential}
+use Rattle.line_search.specs.declared.step.DirKind.{DirKind}
 use Rattle.line_search.specs.declared.step.Step.{Step}
 use Rattle.line_search.specs.Accepted.{IsFirstAccepted}
 use Rattle.line_search.specs.Steps.{IsFirstStep}
@@ -19,9 +20,17 @@ one_first setup terms x direction a b f g =
     ]
 
 -- and so is its step
-pub one_first_step : (setup : Setup) (terms : FrameTerms) (x direction : List V3) (a b : Step) → IsFirstStep setup terms x direction a → IsFirstStep setup terms x direction b → a ≡ b
-one_first_step setup terms x direction a b f g =
+pub one_first_step : (setup : Setup) (terms : FrameTerms) (x : List V3) (kind : DirKind) (direction : List V3) (a b : Step)
+    → IsFirstStep setup terms x kind direction a → IsFirstStep setup terms x kind direction b → a ≡ b
+one_first_step setup terms x kind direction a b f g =
     let half : a.half ≡ b.half = one_first setup terms x direction a.half b.half f.first g.first in
     let places : a.places ≡ b.places = f.places ∙ ap (moved_by x direction) half ∙ sym g.places in
     let lower : a.lower ≡ b.lower = f.lower ∙ ap (potential setup terms) places ∙ sym g.lower in
-    λ i. record { half = half i; direction = (f.direction ∙ sym g.direction) i; places = places i; lower = lower i; upper = (f.upper ∙ sym g.upper) i }
+    λ i. record {
+      kind = (f.kind ∙ sym g.kind) i;
+      half = half i;
+      direction = (f.direction ∙ sym g.direction) i;
+      places = places i;
+      lower = lower i;
+      upper = (f.upper ∙ sym g.upper) i;
+    }

@@ -9,8 +9,10 @@ use Rattle.safe_motion.proofs.Ends.{safe_end}
 use Rattle.surface_mesh.specs.declared.setup.Setup.{Setup}
 use Rattle.surface_mesh.specs.Safety.{IsSafeStep, corner_nodes, depth_of, part_pairs}
 use Rattle.potential_sum.specs.Terms.{FrameTerms}
+use Rattle.potential_sum.specs.Potential.{potential}
 use Rattle.potential_sum.specs.Upright.{IsUpright}
 use Rattle.line_search.specs.declared.halvings.Halving.{Halving}
+use Rattle.line_search.specs.declared.step.DirKind.{DirKind}
 use Rattle.line_search.specs.declared.step.Step.{Step}
 use Rattle.line_search.specs.Accepted.{IsAllowed}
 use Rattle.line_search.specs.Calls.Halvings.{IsFirstHalving}
@@ -30,9 +32,16 @@ allowed_is_pose s terms x y e a = record {
 }
 
 -- the step of the least accepted halving is safe
-pub first_step_is_safe : (s : Setup) (terms : FrameTerms) (x direction : List V3) (step : Step) → IsFirstStep s terms x direction step → IsSafeStep s x step.places
-first_step_is_safe s terms x direction step h =
+pub first_step_is_safe : (s : Setup) (terms : FrameTerms) (x : List V3) (kind : DirKind) (direction : List V3) (step : Step)
+    → IsFirstStep s terms x kind direction step → IsSafeStep s x step.places
+first_step_is_safe s terms x kind direction step h =
     allowed_is_safe s terms x step.places (subst (IsAllowed s terms x) (sym h.places) h.first.accepted.allowed)
+
+-- and lowers the potential
+pub first_step_goes_down : (s : Setup) (terms : FrameTerms) (x : List V3) (kind : DirKind) (direction : List V3) (step : Step)
+    → IsFirstStep s terms x kind direction step → potential s terms step.places <ℤ potential s terms x
+first_step_goes_down s terms x kind direction step h =
+    (subst (IsAllowed s terms x) (sym h.places) h.first.accepted.allowed).lower
 
 -- the first accepted halving is allowed
 pub first_halving_is_allowed : (s : Setup) (terms : FrameTerms) (x direction : List V3) (halving : Halving) → IsFirstHalving s terms x direction halving → IsAllowed s terms x halving.places

@@ -9,6 +9,7 @@ use Rattle.surface_mesh.specs.Setup.{IsSetup}
 use Rattle.surface_mesh.specs.Sturdy.{IsSturdy}
 use Rattle.potential_sum.specs.Terms.{FrameTerms, KeptTerms, StandFor}
 use Rattle.potential_sum.specs.Potential.{potential}
+use Rattle.line_search.specs.declared.step.DirKind.{DirKind}
 use Rattle.line_search.specs.declared.step.Step.{Step}
 use Rattle.line_search.specs.Accepted.{IsFirstAccepted}
 use Rattle.line_search.specs.Poses.{IsPose}
@@ -25,9 +26,10 @@ pub record IsDirection (x direction : List V3) : Type 0 where
   pub each : length direction ≡ length x
   pub short : All (Within DIRECTION_LIMIT) direction
 
--- the step of the least accepted halving of a direction, with the potentials before and after
-pub record IsFirstStep (setup : Setup) (terms : FrameTerms) (x along : List V3) (step : Step) : Type 0 where
+-- the step of the least accepted halving of a direction of this method, with the potentials before and after
+pub record IsFirstStep (setup : Setup) (terms : FrameTerms) (x : List V3) (method : DirKind) (along : List V3) (step : Step) : Type 0 where
   pub first : IsFirstAccepted setup terms x along step.half
+  pub kind : step.kind ≡ method
   pub direction : step.direction ≡ along
   pub places : step.places ≡ moved_by x along step.half
   pub lower : step.lower ≡ potential setup terms step.places

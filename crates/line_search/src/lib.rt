@@ -3,7 +3,9 @@
 
 mod allowed;
 mod apart;
+mod end;
 mod halvings;
 mod step;
 
-pub use step::{Step, first_step};
+pub use end::FrameEnd;
+pub use step::{DirKind, Step, first_step};

@@ -14,9 +14,20 @@ use space3::Places;
 use std::alloc::{AllocError, Global};
 use surface_mesh::{DirList, Setup};
 
+/// Of which method a direction is.
+#[derive(Clone, Copy, PartialEq, Eq, Debug)]
+pub enum DirKind {
+    /// Newton's, by conjugate gradients.
+    Newton,
+    /// Jacobi's: the gradient over the matrix's diagonal.
+    Jacobi,
+}
+
 /// A step that was taken.
 #[derive(Drop)]
 pub struct Step {
+    /// Of which method the direction is.
+    pub kind: DirKind,
     /// How often the direction was halved.
     pub half: u8,
     /// The direction before it was halved, one vector per node.
@@ -29,7 +40,7 @@ pub struct Step {
     pub upper: i128,
 }
 
-/// The step of the least accepted halving of a direction, from 0 to 20, or None exactly where none is accepted.
+/// The step of the least accepted halving of a direction of this kind, from 0 to 20, or None exactly where none is accepted.
 ///
 /// A halving is accepted where it moves some node, all nodes stay in the box, no component of an edge gets above
 /// 65536 grid units, each pair of parts of the surface that must not meet is certified to stay apart and each
@@ -42,6 +53,7 @@ pub fn first_step(
     setup: &Setup,
     terms: &Terms,
     x: &Places,
+    kind: DirKind,
     direction: DirList,
     upper: i128,
     tally: &mut Tally,
@@ -50,7 +62,7 @@ pub fn first_step(
     requires direction { IsDirection x.now direction }
     requires upper { upper ≡ potential setup.now terms.now.frame x.now }
     ensures first { IfOk result (λ step.
-        IfSome step (IsFirstStep setup.now terms.now.frame x.now direction)) }
+        IfSome step (IsFirstStep setup.now terms.now.frame x.now kind direction)) }
     ensures exhausted { IfOk result (λ step.
         IfNone step (HasNoAccepted setup.now terms.now.frame x.now direction)) }
     // At every fraction of the step no pair meets, and each volume is positive.
@@ -61,6 +73,7 @@ pub fn first_step(
     match first_halving(alloc, setup, terms, x, direction.items(), upper, tally)? {
         None => Ok(None),
         Some(halving) => Ok(Some(Step {
+            kind,
             half: halving.half,
             direction,
             places: halving.places,

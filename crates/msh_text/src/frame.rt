@@ -9,8 +9,7 @@ ghost use Rattle.msh_text.specs.Calls.Growth.{Begins};
 ghost use Rattle.msh_text.specs.Frame.{line_of, node_row, tet_row, frame_text, placed_at, spaced};
 ghost use Rattle.msh_text.specs.Texts.{TextMeans};
 
-use dec_text::{Snap, grid_text};
-use itoa::Buffer;
+use dec_text::{Snap, grid_text, number_text};
 use space3::{Mesh, Places, Tet, V3};
 use std::alloc::{AllocError, Global};
 
@@ -60,11 +59,11 @@ fn add_frame(
     let numbers = mesh.numbers.items();
     let tets = mesh.tets.items();
     add(out, b"$MeshFormat\n2.2 0 8\n$EndMeshFormat\n$Nodes\n")?;
-    add_number(out, numbers.len() as u64)?;
+    number_text(numbers.len() as u64, out)?;
     add(out, b"\n")?;
     add_nodes(alloc, out, numbers, places, digits)?;
     add(out, b"$EndNodes\n$Elements\n")?;
-    add_number(out, tets.len() as u64)?;
+    number_text(tets.len() as u64, out)?;
     add(out, b"\n")?;
     add_tets(out, numbers, tets)?;
     add(out, b"$EndElements\n")?;
@@ -102,7 +101,7 @@ fn add_node(
     ensures added { OnOk result (out.new.items ≡ out.old.items ++ line_of (node_row digits (number, place))) }
     ensures kept { OnErr result (Begins out.old.items out.new.items) }
 {
-    add_number(out, u64::from(number))?;
+    number_text(number, out)?;
     add_coordinate(alloc, out, place.x, digits)?;
     add_coordinate(alloc, out, place.y, digits)?;
     add_coordinate(alloc, out, place.z, digits)?;
@@ -129,7 +128,7 @@ fn add_tet(out: &mut Vec<u8>, numbers: &[u32], tet: &Tet) -> Result<(), AllocErr
     ensures kept { OnErr result (Begins out.old.items out.new.items) }
 {
     let tags = tet.tags.items();
-    add_number(out, u64::from(tet.number))?;
+    number_text(tet.number, out)?;
     add(out, b" 4")?;
     add_field(out, tags.len() as u64)?;
     add_tags(out, tags)?;
@@ -167,7 +166,7 @@ fn add_field(out: &mut Vec<u8>, n: u64) -> Result<(), AllocError>
     ensures kept { OnErr result (Begins out.old.items out.new.items) }
 {
     add(out, b" ")?;
-    add_number(out, n)
+    number_text(n, out)
 }
 
 // The same of a number that may have a sign.
@@ -176,7 +175,7 @@ fn add_signed_field(out: &mut Vec<u8>, n: i64) -> Result<(), AllocError>
     ensures kept { OnErr result (Begins out.old.items out.new.items) }
 {
     add(out, b" ")?;
-    add_signed(out, n)
+    number_text(n, out)
 }
 
 // A coordinate after a space.
@@ -195,22 +194,4 @@ fn add(out: &mut Vec<u8>, text: &[u8]) -> Result<(), AllocError>
     ensures unchanged { OnErr result (out.new.items ≡ out.old.items) }
 {
     out.extend_from_slice(text)
-}
-
-// Adds a number.
-fn add_number(out: &mut Vec<u8>, n: u64) -> Result<(), AllocError>
-    ensures added { OnOk result (out.new.items ≡ out.old.items ++ decimal n) }
-    ensures unchanged { OnErr result (out.new.items ≡ out.old.items) }
-{
-    let mut buffer = Buffer::new();
-    out.extend_from_slice(buffer.format(n).as_bytes())
-}
-
-// Adds a number that may have a sign.
-fn add_signed(out: &mut Vec<u8>, n: i64) -> Result<(), AllocError>
-    ensures added { OnOk result (out.new.items ≡ out.old.items ++ signed_decimal n) }
-    ensures unchanged { OnErr result (out.new.items ≡ out.old.items) }
-{
-    let mut buffer = Buffer::new();
-    out.extend_from_slice(buffer.format(n).as_bytes())
 }

@@ -1,5 +1,5 @@
 pub mod AtRest
-pub mod Diagonals
+pub mod FourBlocks
 pub mod Shifts
 pub mod Symmetry
 pub mod Worked

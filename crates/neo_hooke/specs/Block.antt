@@ -1,10 +1,10 @@
 -- A block of the matrix: how the pull at one node changes with the place of another. The stretch gives it the same in all
 -- directions; of the volume, what is never negative is kept: a square.
-use Rattle.std.specs.Prelude.{ℕ, zero, suc, ◌^◌, ℤ, pos, ◌+ℤ◌, ◌*ℤ◌, neg_ℤ, List, [], ◌∷◌, map}
+use Rattle.std.specs.Prelude.{ℕ, zero, suc, ◌^◌, ℤ, pos, ◌+ℤ◌, ◌*ℤ◌, neg_ℤ, List}
 use Rattle.num_q.specs.Rounding.{cut_of, floor_of}
 use Rattle.space3.specs.declared.vectors.V3.{V3}
 use Rattle.space3.specs.Vectors.{vector, dot_product}
-use Rattle.vec_q.specs.Matrices.{M3, columns, cofactors, determinant_of, diagonal_of, transposed, unit_times}
+use Rattle.vec_q.specs.Matrices.{M3, columns, cofactors, determinant_of, transposed, unit_times}
 use Rattle.neo_hooke.specs.Rest.{RestShape, edge_matrix}
 
 -- minus the sum of the columns
@@ -64,14 +64,3 @@ block_at rest mu lambda edges i j =
 
 abbrev pub elastic_block : RestShape → (mu lambda : ℤ) → List V3 → (i j : ℕ) → M3
 elastic_block rest mu lambda x i j = block_at rest mu lambda (edge_matrix x) i j
-
--- the diagonal of the block of a node with itself, from the volume and the cofactors
-unfoldable pub diagonal_at : RestShape → (mu lambda volume : ℤ) → (across : M3) → (i : ℕ) → V3
-diagonal_at rest mu lambda volume across i =
-    let h = slopes_of volume (at_node across i) in
-    diagonal_of (block_of (stretch_entry rest mu i i) (rest.r *ℤ (mu +ℤ lambda)) h h)
-
--- the diagonals of the blocks of each of the four nodes with itself
-abbrev pub elastic_diagonals : RestShape → (mu lambda : ℤ) → List V3 → List V3
-elastic_diagonals rest mu lambda x =
-    map (λ (i : ℕ). diagonal_of (elastic_block rest mu lambda x i i)) (0 ∷ 1 ∷ 2 ∷ 3 ∷ [])

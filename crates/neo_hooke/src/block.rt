@@ -1,10 +1,10 @@
 //! A block of the matrix for the elastic energy.
-ghost use Rattle.std.specs.Prelude.{◌≡◌, ◌<◌, pos, ◌<ℤ◌, ◌+ℤ◌, neg_ℤ, [], ◌∷◌, map};
+ghost use Rattle.std.specs.Prelude.{◌≡◌, ◌<◌, pos, ◌<ℤ◌, ◌+ℤ◌, neg_ℤ};
 ghost use Rattle.num_q.specs.Rounding.{cut_of};
-ghost use Rattle.vec_q.specs.Matrices.{determinant_of, diagonal_of, unit_times};
+ghost use Rattle.vec_q.specs.Matrices.{determinant_of, unit_times};
 ghost use Rattle.vec_q.specs.Raws.{raws, raw_columns};
-ghost use Rattle.vec_q.specs.Rows.{components, rows_of};
-ghost use Rattle.neo_hooke.specs.Block.{opposite_of, at_node, log_slope, log_slopes, slopes_of, stretch_entry, volume_entry, column_of, block_of, block_at, diagonal_at, elastic_block, elastic_diagonals};
+ghost use Rattle.vec_q.specs.Rows.{rows_of};
+ghost use Rattle.neo_hooke.specs.Block.{opposite_of, at_node, log_slope, log_slopes, slopes_of, stretch_entry, volume_entry, column_of, block_of, block_at, elastic_block};
 ghost use Rattle.neo_hooke.specs.Elements.{shape_in};
 ghost use Rattle.neo_hooke.specs.Rest.{CanStand, IsModulus, IsRestShape, shape_of};
 
@@ -49,46 +49,6 @@ impl Element {
             (elastic_block (shape_in self.now) self.now.mu.raw self.now.lambda.raw x.now i j) }
     {
         self.block_at(edges_of(x), i, j).rows()
-    }
-
-    /// The diagonals of the blocks of each node with itself at these places.
-    pub fn diagonals(&self, x: &[V3; 4]) -> [[i128; 3]; 4]
-        requires { CanStand x.now }
-        ensures { result ≡ map components
-            (elastic_diagonals (shape_in self.now) self.now.mu.raw self.now.lambda.raw x.now) }
-    {
-        let edges = edges_of(x);
-        self.diagonals_from(determinant(edges), edges.cofactors_into())
-    }
-
-    // The same, from the volume and the cofactors.
-    fn diagonals_from(&self, volume: Q<0, 54>, across: MatQ<0, 35>) -> [[i128; 3]; 4]
-        requires { pos 0 <ℤ volume.raw }
-        ensures { result ≡ map (λ i. components (diagonal_at (shape_in self.now) self.now.mu.raw
-            self.now.lambda.raw volume.raw (raw_columns across) i)) (0 ∷ 1 ∷ 2 ∷ 3 ∷ []) }
-    {
-        [
-            self.diagonal_at(volume, across, 0).components(),
-            self.diagonal_at(volume, across, 1).components(),
-            self.diagonal_at(volume, across, 2).components(),
-            self.diagonal_at(volume, across, 3).components(),
-        ]
-    }
-
-    // The diagonal of the block of a node with itself.
-    #[tactic(auto, unfolding(crate::specs::Block::diagonal_at))]
-    fn diagonal_at(&self, volume: Q<0, 54>, across: MatQ<0, 35>, i: u8) -> VecQ<0, 86>
-        requires volume { pos 0 <ℤ volume.raw }
-        requires i { i < 4 }
-        ensures { raws result ≡ diagonal_at (shape_in self.now) self.now.mu.raw
-            self.now.lambda.raw volume.raw (raw_columns across) i }
-    {
-        let moduli: Q<0, 32> = self.mu.add_into(self.lambda);
-        diagonal_entries(
-            self.stretch_entry(i, i),
-            self.r.mul_into(moduli),
-            slopes_of(volume, at_node(across, i)),
-        )
     }
 
     // The block, from the edges.
@@ -141,7 +101,7 @@ fn opposite_of(m: MatQ<0, 35>) -> VecQ<0, 37>
 }
 
 // The vector of a node.
-fn at_node(m: MatQ<0, 35>, node: u8) -> VecQ<0, 37>
+pub(crate) fn at_node(m: MatQ<0, 35>, node: u8) -> VecQ<0, 37>
     requires { node < 4 }
     ensures { raws result ≡ at_node (raw_columns m) node }
 {
@@ -170,7 +130,7 @@ fn log_slopes(edges: MatQ<0, 17>, node: u8) -> VecQ<24, 24>
     slopes_of(determinant(edges), at_node(edges.cofactors_into(), node))
 }
 
-fn slopes_of(volume: Q<0, 54>, cofactor: VecQ<0, 37>) -> VecQ<24, 24>
+pub(crate) fn slopes_of(volume: Q<0, 54>, cofactor: VecQ<0, 37>) -> VecQ<24, 24>
     requires volume { pos 0 <ℤ volume.raw }
     ensures { raws result ≡ slopes_of volume.raw (raws cofactor) }
 {
@@ -211,7 +171,7 @@ fn column_of(
     }
 }
 
-fn block_of(
+pub(crate) fn block_of(
     stretch: Q<0, 116>,
     stiffness: Q<0, 77>,
     h: VecQ<24, 24>,
@@ -224,18 +184,6 @@ fn block_of(
         first: column_of(stiffness, h, l.x, diagonal.first),
         second: column_of(stiffness, h, l.y, diagonal.second),
         third: column_of(stiffness, h, l.z, diagonal.third),
-    }
-}
-
-// The entries of a block on the diagonal, where both its nodes are one.
-fn diagonal_entries(stretch: Q<0, 116>, stiffness: Q<0, 77>, h: VecQ<24, 24>) -> VecQ<0, 86>
-    ensures { raws result ≡
-        diagonal_of (block_of stretch.raw stiffness.raw (raws h) (raws h)) }
-{
-    VecQ {
-        x: entry(stretch, volume_entry(stiffness, h.x, h.x)),
-        y: entry(stretch, volume_entry(stiffness, h.y, h.y)),
-        z: entry(stretch, volume_entry(stiffness, h.z, h.z)),
     }
 }
 

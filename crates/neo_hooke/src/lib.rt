@@ -5,6 +5,7 @@
 #![tactic(auto)]
 
 mod block;
+mod blocks;
 mod element;
 mod energy;
 mod gradient;

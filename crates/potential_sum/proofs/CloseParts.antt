@@ -1,5 +1,5 @@
 -- Close parts may push each other, and there are not too many.
-use Rattle.std.proofs.Common.{◌≡◌, ◌∙◌, ℕ, ◌+◌, ◌*◌, ◌<◌, ◌≤◌, ℤ, pos, ◌≤ℤ◌, true, List, [], ◌∷◌, map, length, unsigned_abs, inl, inr, mul-le-mul, ap, sym, subst, arith}
+use Rattle.std.proofs.Common.{◌≡◌, ◌∙◌, ℕ, ◌+◌, ◌*◌, ◌<◌, ◌≤◌, ℤ, pos, ◌≤ℤ◌, true, List, map, length, unsigned_abs, inl, inr, mul-le-mul, ap, sym, subst, arith}
 use Rattle.std.specs.Prelude.{All}
 use Rattle.std.specs.List.{Contains}
 use Rattle.std.proofs.lemmas.Bool.{and_parts}
@@ -15,7 +15,7 @@ use Rattle.boundary.specs.declared.pairs.Pair.{Pair}
 use Rattle.boundary.specs.declared.pairs.PairKind.{PairKind}
 use Rattle.boundary.specs.declared.pairs.PairKind.TheVariants.{VE, VT, EE, ET}
 use Rattle.boundary.specs.Calls.Parts.{IsPart}
-use Rattle.boundary.specs.Pairs.{IsPair, first_parts, pairs_of, part_pair, second_parts}
+use Rattle.boundary.specs.Pairs.{IsPair, pairs_of, part_pair}
 use Rattle.boundary.specs.Surface.{SurfaceLists}
 use Rattle.boundary.proofs.PairNodes.{nodes_differ}
 use Rattle.boundary.proofs.PairOrder.{pairs_sorted}
@@ -29,8 +29,9 @@ use Rattle.surface_mesh.proofs.ShortEdges.{corners_are_near, some_are_near}
 use Rattle.nearest.specs.declared.limits.TheConstants.{EDGE_LIMIT}
 use Rattle.nearest.specs.Close.{HasShortEdges}
 use Rattle.nearest.proofs.CloseParts.{close_by}
-use Rattle.potential_sum.specs.Calls.Barriers.{AreFour, IsClosePair, MayPush}
-use Rattle.potential_sum.specs.Contributions.{close_parts}
+use Rattle.potential_sum.specs.Calls.Barriers.{AreDifferent, AreFour, IsClosePair, MayPush}
+use Rattle.potential_sum.specs.declared.contacts.TheConstants.{MOST_CLOSE}
+use Rattle.potential_sum.specs.Contacts.{close_parts, nodes_of_parts}
 use Rattle.potential_sum.specs.Upright.{IsUpright}
 use Rattle.potential_sum.specs.Upright as upright
 
@@ -64,22 +65,44 @@ part_is_there s x nodes h stands part =
 small_reach : (dhat : ℤ) → pos 2 ≤ℤ dhat → dhat ≤ℤ pos 1024 → unsigned_abs dhat ≤ 1024
 small_reach dhat h k = omega (arith, ints)
 
+-- the two parts of a pair as sides of tetrahedra
+record AreSides (s : Setup) (p : Pair) : Type 0 where
+  left : IsSide s.mesh.tets (first_size p.kind) (part_pair s.surface p).left
+  right : IsSide s.mesh.tets (second_size p.kind) (part_pair s.surface p).right
+
+are_sides : (s : Setup) (p : Pair) → IsSetup s → IsPair s.surface p → AreSides s p
+are_sides s p h pair =
+    let surface = h.has_surface in
+    record {
+      left = first_is_side s.mesh s.surface h.mesh_is_sound surface.is_surface surface.lists p.kind p.a pair.first;
+      right = second_is_side s.mesh s.surface h.mesh_is_sound surface.is_surface surface.lists p.kind p.b pair.second;
+    }
+
+-- all nodes of a pair have places, and they differ
+pub pair_is_there : (s : Setup) (x : List V3) (p : Pair) → IsSetup s → IsUpright s x → IsPair s.surface p → HasNodes x (nodes_of_parts (part_pair s.surface p))
+pair_is_there s x p h stands pair =
+    let parts = part_pair s.surface p in
+    All-append (λ node. node < length x) parts.left parts.right
+    (part_is_there s x parts.left h stands (first_of_pair s.surface p.kind p.a h.has_surface.lists pair.first))
+    (part_is_there s x parts.right h stands (second_of_pair s.surface p.kind p.b h.has_surface.lists pair.second))
+
+pub pair_is_different : (s : Setup) (p : Pair) → IsSetup s → IsPair s.surface p → AreDifferent (nodes_of_parts (part_pair s.surface p))
+pair_is_different s p h pair =
+    let sides = are_sides s p h pair in
+    record { each = λ i j below l. nodes_differ s.surface p pair sides.left.ascending sides.right.ascending i j 0 below l }
+
 may_push : (s : Setup) (x : List V3) (p : Pair) → IsSetup s → IsUpright s x → IsPair s.surface p → is_close (unsigned_abs s.numbers.dhat) s.surface x p ≡ true → MayPush x (part_pair s.surface p)
 may_push s x p h stands pair close =
     let parts = part_pair s.surface p in
-    let surface = h.has_surface in
-    let left : IsSide s.mesh.tets (first_size p.kind) parts.left = first_is_side s.mesh s.surface h.mesh_is_sound surface.is_surface surface.lists p.kind p.a pair.first in
-    let right : IsSide s.mesh.tets (second_size p.kind) parts.right = second_is_side s.mesh s.surface h.mesh_is_sound surface.is_surface surface.lists p.kind p.b pair.second in
+    let sides = are_sides s p h pair in
     let both = and_parts (is_of_close_kind p.kind) (are_within (unsigned_abs s.numbers.dhat) (box_of (map (place_of x) parts.left)) (box_of (map (place_of x) parts.right))) close in
     record {
-      four = four_nodes s.surface s.mesh.tets p both.0 left right;
-      there = All-append (λ node. node < length x) parts.left parts.right
-          (part_is_there s x parts.left h stands (first_of_pair s.surface p.kind p.a surface.lists pair.first))
-          (part_is_there s x parts.right h stands (second_of_pair s.surface p.kind p.b surface.lists pair.second));
-      different = record { each = λ i j below l. nodes_differ s.surface p pair left.ascending right.ascending i j 0 below l };
+      four = four_nodes s.surface s.mesh.tets p both.0 sides.left sides.right;
+      there = pair_is_there s x p h stands pair;
+      different = pair_is_different s p h pair;
       close = close_by (unsigned_abs s.numbers.dhat) (map (place_of x) parts.left) (map (place_of x) parts.right)
           (small_reach s.numbers.dhat h.in_range.dhat.low h.in_range.dhat.high)
-          (side_is_short s x (first_size p.kind) parts.left h stands left) (side_is_short s x (second_size p.kind) parts.right h stands right) both.1;
+          (side_is_short s x (first_size p.kind) parts.left h stands sides.left) (side_is_short s x (second_size p.kind) parts.right h stands sides.right) both.1;
     }
 
 pub are_close_pairs : (s : Setup) (x : List V3) → IsSetup s → IsUpright s x → All (IsClosePair s x) (close_pairs_of (unsigned_abs s.numbers.dhat) s.surface x)
@@ -99,21 +122,20 @@ close_parts_may_push s x h stands =
 
 -- ---- how many
 -- at most 98304 vertices and edges, and 32768 triangles
-pub few_close_parts : (s : Setup) (x : List V3) → IsSetup s → length (close_parts s x) ≤ 12884901888
+pub few_close_parts : (s : Setup) (x : List V3) → IsSetup s → length (close_parts s x) ≤ MOST_CLOSE
 few_close_parts s x h =
     let lists = h.has_surface.lists in
     let reach = unsigned_abs s.numbers.dhat in
-    let vertices : length (first_parts s.surface VT) ≤ 98304 = omega (arith, lists.few_vertices, length-map s.surface.vertices (λ (vertex : ℕ). vertex ∷ [])) in
-    let points : length (first_parts s.surface VT) * length (second_parts s.surface VT) ≤ 98304 * 32768 = mul-le-mul vertices lists.few in
-    let edges : length (first_parts s.surface EE) * length (second_parts s.surface EE) ≤ 98304 * 98304 = mul-le-mul lists.few_edges lists.few_edges in
+    let points : length s.surface.vertices * length s.surface.triangles ≤ 98304 * 32768 = mul-le-mul lists.few_vertices lists.few in
+    let edges : length s.surface.edges * length s.surface.edges ≤ 98304 * 98304 = mul-le-mul lists.few_edges lists.few_edges in
     at_most (few_close_pairs reach s.surface x) points edges (length-map (close_pairs_of reach s.surface x) (part_pair s.surface))
   where
-    at_most : {n m a b : ℕ} → n ≤ a + b → a ≤ 98304 * 32768 → b ≤ 98304 * 98304 → m ≡ n → m ≤ 12884901888
+    at_most : {n m a b : ℕ} → 2 * n ≤ 2 * a + b → a ≤ 98304 * 32768 → b ≤ 98304 * 98304 → m ≡ n → m ≤ MOST_CLOSE
     at_most h k l e = omega (arith, h, k, l, e)
 
 -- ---- the pairs that were found
 pub found_are_close : (s : Setup) (x : List V3) (pairs : List Pair) → IsSetup s → IsUpright s x → pairs ≡ close_pairs_of (unsigned_abs s.numbers.dhat) s.surface x → All (IsClosePair s x) pairs
 found_are_close s x pairs h stands e = subst (All (IsClosePair s x)) (sym e) (are_close_pairs s x h stands)
 
-pub found_are_few : (s : Setup) (x : List V3) (pairs : List Pair) → IsSetup s → pairs ≡ close_pairs_of (unsigned_abs s.numbers.dhat) s.surface x → length pairs ≤ 12884901888
+pub found_are_few : (s : Setup) (x : List V3) (pairs : List Pair) → IsSetup s → pairs ≡ close_pairs_of (unsigned_abs s.numbers.dhat) s.surface x → length pairs ≤ MOST_CLOSE
 found_are_few s x pairs h e = omega (arith, few_close_parts s x h, length-map pairs (part_pair s.surface), ap (λ (found : List Pair). length (map (part_pair s.surface) found)) e)

@@ -28,12 +28,18 @@ use Rattle.inertia_term.specs.Inertia.{inertia_energy, offset_of}
 use Rattle.neo_hooke.specs.Energy.{shear_energy, stretch_energy, volume_energy}
 use Rattle.neo_hooke.specs.Rest.{edge_matrix}
 use Rattle.neo_hooke.specs.Strain.{log_volume, squared_strain}
+use Rattle.friction_lag.specs.declared.contacts.Contact.{Contact}
+use Rattle.friction_lag.specs.Contacts.{LaggedContact}
+use Rattle.friction_lag.specs.Lagged.{lagged_in}
+use Rattle.friction_lag.proofs.Sizes.{energy_is_small}
 use Rattle.potential_sum.specs.declared.bodies.Body.{Body}
 use Rattle.potential_sum.specs.Bodies.{ElasticTet, corners_at, elastic_tets}
 use Rattle.potential_sum.specs.Calls.Barriers.{barrier_at}
+use Rattle.potential_sum.specs.Calls.Friction.{friction_at}
 use Rattle.potential_sum.specs.Calls.Inertia.{energy_at}
 use Rattle.potential_sum.specs.Calls.Kept.{elastic_in}
-use Rattle.potential_sum.specs.Contributions.{Contribution, barrier_contribution, close_parts, elastic_contribution, inertia_contribution}
+use Rattle.potential_sum.specs.Contributions.{Contribution, barrier_contribution, elastic_contribution, friction_contribution, inertia_contribution}
+use Rattle.potential_sum.specs.Contacts.{close_parts}
 use Rattle.potential_sum.specs.Potential.{potential}
 use Rattle.potential_sum.specs.Terms.{FrameTerms}
 
@@ -96,29 +102,48 @@ barrier-small numbers places parts = where_active (nat_lt d e)
     where_active true = cut-small 90 (floor_of (numbers.kappa *ℤ depth d e *ℤ depth d e *ℤ neg_ℤ (ln_ratio_of d e)) (pos (2 ^ 40)))
     where_active false = record { bound = omega arith }
 
--- the energies of nodes, tetrahedra and pairs
-energies-of : (nodes tets pairs : List Contribution) → total (map (λ part. part.energy) (nodes ++ tets ++ pairs)) ≡
-    (total (map (λ part. part.energy) nodes) +ℤ total (map (λ part. part.energy) tets)) +ℤ total (map (λ part. part.energy) pairs)
-energies-of nodes tets pairs =
-    let energy : Contribution → ℤ = λ part. part.energy in
-    ap total (map-append energy (nodes ++ tets) pairs) ∙ total-append (map energy (nodes ++ tets)) (map energy pairs)
-    ∙ ap (λ (z : ℤ). z +ℤ total (map energy pairs)) (ap total (map-append energy nodes tets) ∙ total-append (map energy nodes) (map energy tets))
+pub friction-small : (numbers : Numbers) (places : List V3) (contact : LaggedContact) → AtMost (2 ^ 90) (friction_contribution numbers places contact).energy
+friction-small numbers places contact = energy_is_small contact numbers.friction numbers.slip (corners_at places contact.nodes)
 
--- the potential, from what is kept and from the pairs that were found
-pub potential-kept : (s : Setup) (frame : FrameTerms) (places : List V3) (bodies : List Body) (pairs : List Pair) → length places ≡ length s.mesh.numbers → map elastic_in bodies ≡ elastic_tets s → pairs ≡ close_pairs_of (unsigned_abs s.numbers.dhat) s.surface places →
-    (total (map (energy_at s.mass frame.targets places) (range_with_len 0 (length places))) +ℤ total (map (λ body. (elastic_contribution places (elastic_in body)).energy) bodies)) +ℤ total (map (λ pair. (barrier_at s places pair).energy) pairs) ≡ potential s frame places
-potential-kept s frame places bodies pairs e kept found =
-    (λ i. (total (map (energy_at s.mass frame.targets places) (range_with_len 0 (e i))) +ℤ total (of_tets i)) +ℤ total (of_pairs i))
-    ∙ (λ i. (total (sym (map-map energy (inertia_contribution s frame places) (node_positions s.mesh)) i) +ℤ total (sym (map-map energy (elastic_contribution places) (elastic_tets s)) i)) +ℤ total (sym (map-map energy (barrier_contribution s.numbers places) (close_parts s places)) i))
-    ∙ sym (energies-of (map (inertia_contribution s frame places) (node_positions s.mesh)) (map (elastic_contribution places) (elastic_tets s)) (map (barrier_contribution s.numbers places) (close_parts s places)))
+-- the energies of nodes, tetrahedra, pairs and contacts
+energies-of : (nodes tets pairs contacts : List Contribution) → total (map (λ part. part.energy) (nodes ++ tets ++ pairs ++ contacts)) ≡
+    ((total (map (λ part. part.energy) nodes) +ℤ total (map (λ part. part.energy) tets)) +ℤ total (map (λ part. part.energy) pairs)) +ℤ total (map (λ part. part.energy) contacts)
+energies-of nodes tets pairs contacts =
+    joined (nodes ++ tets ++ pairs) contacts
+    ∙ ap (λ (z : ℤ). z +ℤ total (map energy contacts)) (joined (nodes ++ tets) pairs ∙ ap (λ (z : ℤ). z +ℤ total (map energy pairs)) (joined nodes tets))
   where
     energy : Contribution → ℤ
     energy part = part.energy
 
-    of_tets : map (λ body. (elastic_contribution places (elastic_in body)).energy) bodies ≡ map (λ tet. (elastic_contribution places tet).energy) (elastic_tets s)
-    of_tets = sym (map-map (λ (tet : ElasticTet). (elastic_contribution places tet).energy) elastic_in bodies) ∙ ap (map (λ (tet : ElasticTet). (elastic_contribution places tet).energy)) kept
+    joined : (xs ys : List Contribution) → total (map energy (xs ++ ys)) ≡ total (map energy xs) +ℤ total (map energy ys)
+    joined xs ys = ap total (map-append energy xs ys) ∙ total-append (map energy xs) (map energy ys)
 
-    of_pairs : map (λ pair. (barrier_at s places pair).energy) pairs ≡ map (λ parts. (barrier_contribution s.numbers places parts).energy) (close_parts s places)
-    of_pairs =
-        ap (map (λ pair. (barrier_at s places pair).energy)) found
-        ∙ sym (map-map (λ (parts : PartPair). (barrier_contribution s.numbers places parts).energy) (part_pair s.surface) (close_pairs_of (unsigned_abs s.numbers.dhat) s.surface places))
+-- the energies of images
+energies-map : {X Y : Type 0} (f : Y → Contribution) (g : X → Y) (xs : List X) (ys : List Y) → map g xs ≡ ys → total (map (λ x. (f (g x)).energy) xs) ≡ total (map (λ part. part.energy) (map f ys))
+energies-map f g xs ys e =
+    ap total (sym (map-map (λ y. (f y).energy) g xs) ∙ ap (map (λ y. (f y).energy)) e ∙ sym (map-map (λ (part : Contribution). part.energy) f ys))
+
+-- the potential, from what is kept and from the pairs that were found
+pub potential-kept : (s : Setup) (frame : FrameTerms) (places : List V3) (bodies : List Body) (pairs : List Pair) (contacts : List Contact) → length places ≡ length s.mesh.numbers → map elastic_in bodies ≡ elastic_tets s →
+    pairs ≡ close_pairs_of (unsigned_abs s.numbers.dhat) s.surface places → map lagged_in contacts ≡ frame.contacts →
+    ((total (map (energy_at s.mass frame.targets places) (range_with_len 0 (length places))) +ℤ total (map (λ body. (elastic_contribution places (elastic_in body)).energy) bodies)) +ℤ total (map (λ pair. (barrier_at s places pair).energy) pairs))
+    +ℤ total (map (λ contact. (friction_at s.numbers places contact).energy) contacts) ≡ potential s frame places
+potential-kept s frame places bodies pairs contacts e kept found lagged =
+    (λ i. ((total (map (energy_at s.mass frame.targets places) (range_with_len 0 (e i))) +ℤ of_tets i) +ℤ of_pairs i) +ℤ of_contacts i)
+    ∙ (λ i. ((total (sym (map-map energy (inertia_contribution s frame places) (node_positions s.mesh)) i) +ℤ sum (map (elastic_contribution places) (elastic_tets s))) +ℤ sum (map (barrier_contribution s.numbers places) (close_parts s places))) +ℤ sum (map (friction_contribution s.numbers places) frame.contacts))
+    ∙ sym (energies-of (map (inertia_contribution s frame places) (node_positions s.mesh)) (map (elastic_contribution places) (elastic_tets s)) (map (barrier_contribution s.numbers places) (close_parts s places)) (map (friction_contribution s.numbers places) frame.contacts))
+  where
+    energy : Contribution → ℤ
+    energy part = part.energy
+
+    sum : List Contribution → ℤ
+    sum parts = total (map energy parts)
+
+    of_tets : total (map (λ body. (elastic_contribution places (elastic_in body)).energy) bodies) ≡ sum (map (elastic_contribution places) (elastic_tets s))
+    of_tets = energies-map (elastic_contribution places) elastic_in bodies (elastic_tets s) kept
+
+    of_pairs : total (map (λ pair. (barrier_at s places pair).energy) pairs) ≡ sum (map (barrier_contribution s.numbers places) (close_parts s places))
+    of_pairs = energies-map (barrier_contribution s.numbers places) (part_pair s.surface) pairs (close_parts s places) (ap (map (part_pair s.surface)) found)
+
+    of_contacts : total (map (λ contact. (friction_at s.numbers places contact).energy) contacts) ≡ sum (map (friction_contribution s.numbers places) frame.contacts)
+    of_contacts = energies-map (friction_contribution s.numbers places) lagged_in contacts frame.contacts lagged

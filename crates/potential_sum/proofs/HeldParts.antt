@@ -1,5 +1,5 @@
 -- Two close parts as four nodes and the number of nodes of the first.
-use Rattle.std.proofs.Common.{◌≡◌, ◌∙◌, ℕ, ◌≤◌, ◌<◌, ◌^◌, ℤ, pos, ◌≤ℤ◌, unsigned_abs, List, [], ◌∷◌, ◌++◌, length, map, take, drop, get_or, ap, sym, subst, arith, lit<, inl, inr, w64, to_z, of_z}
+use Rattle.std.proofs.Common.{◌≡◌, ◌∙◌, ℕ, ◌≤◌, ◌<◌, ◌^◌, ℤ, pos, ◌≤ℤ◌, unsigned_abs, List, [], ◌∷◌, length, map, take, drop, get_or, ap, sym, subst, arith, lit<, inl, inr, w64, to_z, of_z}
 use Rattle.std.specs.Prelude.{All, zip}
 use Rattle.std.proofs.lemmas.Int.{ints}
 use Rattle.std.proofs.lemmas.List.{length-map, length-take, length-drop, take-append-drop, map-append, take-map, drop-map}
@@ -24,6 +24,7 @@ use Rattle.potential_sum.specs.declared.pulls.Pull.{Pull}
 use Rattle.potential_sum.specs.Bodies.{corners_at}
 use Rattle.potential_sum.specs.Calls.Barriers.{AreFour, IsClosePair, MayPush, barrier_of, parts_in}
 use Rattle.potential_sum.specs.Calls.Sums.{as_pull}
+use Rattle.potential_sum.specs.Contacts.{near_of_parts, nodes_of_parts, points_of_parts}
 use Rattle.potential_sum.specs.Contributions.{barrier_contribution}
 
 -- a point and three, or two and two
@@ -56,6 +57,9 @@ held_split x parts h = (are_split parts h.four).split
 pub held_there : (x : List V3) (parts : TwoParts) → MayPush x (parts_in parts) → HasNodes x parts.nodes
 held_there x parts h = subst (HasNodes x) (take-append-drop parts.split parts.nodes) h.there
 
+held_nodes : (parts : TwoParts) → parts.nodes ≡ nodes_of_parts (parts_in parts)
+held_nodes parts = sym (take-append-drop parts.split parts.nodes)
+
 -- the parts of a pair that may push
 pub held_pair : (s : Setup) (x : List V3) (pairs : List Pair) (parts : TwoParts) (k : ℕ) (d : Pair) → All (IsClosePair s x) pairs → k < length pairs → parts_in parts ≡ part_pair s.surface (get_or pairs k d) → MayPush x (parts_in parts)
 held_pair s x pairs parts k d h l e = subst (MayPush x) (sym e) (h k d l).close
@@ -76,23 +80,18 @@ held_close x parts points h e =
     subst (λ (first : List V3). AreClose first (drop parts.split points)) (sym (first_places x parts points h e))
     (subst (AreClose (map (place_of x) (take parts.split parts.nodes))) (sym (second_places x parts points h e)) h.close)
 
+-- where they are, and their nearest points
+pub held_points : (x : List V3) (parts : TwoParts) (points : List V3) → MayPush x (parts_in parts) → points ≡ corners_at x parts.nodes → points ≡ points_of_parts x (parts_in parts)
+held_points x parts points h e =
+    places_of x parts points h e ∙ ap (map (place_of x)) (held_nodes parts) ∙ map-append (place_of x) (take parts.split parts.nodes) (drop parts.split parts.nodes)
+
+pub held_near : (x : List V3) (parts : TwoParts) (points : List V3) (near : Near) → MayPush x (parts_in parts) → points ≡ corners_at x parts.nodes → near ≡ near_between (take parts.split points) (drop parts.split points) → near ≡ near_of_parts x (parts_in parts)
+held_near x parts points near h e n = n ∙ (λ i. near_between (first_places x parts points h e i) (second_places x parts points h e i))
+
 -- their barrier
-pub held_barrier : (numbers : Numbers) (x : List V3) (parts : TwoParts) (points : List V3) (near : Near) → MayPush x (parts_in parts) → points ≡ corners_at x parts.nodes → near ≡ near_between (take parts.split points) (drop parts.split points) →
+pub held_barrier : (numbers : Numbers) (x : List V3) (parts : TwoParts) (points : List V3) (near : Near) → MayPush x (parts_in parts) → points ≡ points_of_parts x (parts_in parts) → near ≡ near_of_parts x (parts_in parts) →
     barrier_of numbers parts.nodes parts.split points near ≡ barrier_contribution numbers x (parts_in parts)
-held_barrier numbers x parts points near h e n =
-    λ i. barrier_of numbers (nodes i) (split i) (places i) (nearest i)
-  where
-    nodes : parts.nodes ≡ take parts.split parts.nodes ++ drop parts.split parts.nodes
-    nodes = sym (take-append-drop parts.split parts.nodes)
-
-    split : parts.split ≡ length (take parts.split parts.nodes)
-    split = sym (are_split parts h.four).first
-
-    places : points ≡ map (place_of x) (take parts.split parts.nodes) ++ map (place_of x) (drop parts.split parts.nodes)
-    places = places_of x parts points h e ∙ ap (map (place_of x)) nodes ∙ map-append (place_of x) (take parts.split parts.nodes) (drop parts.split parts.nodes)
-
-    nearest : near ≡ near_between (map (place_of x) (take parts.split parts.nodes)) (map (place_of x) (drop parts.split parts.nodes))
-    nearest = n ∙ (λ i. near_between (first_places x parts points h e i) (second_places x parts points h e i))
+held_barrier numbers x parts points near h e n = λ i. barrier_of numbers (held_nodes parts i) (sym (are_split parts h.four).first i) (e i) (n i)
 
 -- ---- the numbers of a scene
 pub stiffness_is_in_range : (numbers : Numbers) → AreNumbers numbers → IsFrom (pos 0) MOST_STIFFNESS numbers.kappa
@@ -118,6 +117,15 @@ kept_dhat numbers h = clean w64 numbers.dhat 1024 (size numbers.dhat 1024 (above
   where
     above : (a : ℤ) → pos 2 ≤ℤ a → pos 1 ≤ℤ a
     above a l = omega (arith, ints)
+
+pub kept_friction : (numbers : Numbers) → AreNumbers numbers → to_z w64 (of_z w64 numbers.friction) ≡ numbers.friction
+kept_friction numbers h = clean w64 numbers.friction 1024 (from_zero numbers.friction h.friction.low h.friction.high) (lit< tt)
+  where
+    from_zero : (a : ℤ) → pos 0 ≤ℤ a → a ≤ℤ pos 1024 → unsigned_abs a ≤ 1024
+    from_zero a l h = omega (arith, ints)
+
+pub kept_slip : (numbers : Numbers) → AreNumbers numbers → to_z w64 (of_z w64 numbers.slip) ≡ numbers.slip
+kept_slip numbers h = clean w64 numbers.slip 1024 (size numbers.slip 1024 h.slip.low h.slip.high) (lit< tt)
 
 -- ---- four vectors at four nodes
 pub held_four : (x : List V3) (parts : TwoParts) → MayPush x (parts_in parts) → length parts.nodes ≡ 4

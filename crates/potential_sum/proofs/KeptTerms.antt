@@ -1,5 +1,5 @@
 -- What terms that stand for a setup give at a pose.
-use Rattle.std.proofs.Common.{◌≡◌, ◌∙◌, ◌^◌, ◌≤◌, ℤ, ◌+ℤ◌, List, ap, sym, subst, arith, to_z, of_z, unsigned_abs, lit<}
+use Rattle.std.proofs.Common.{◌≡◌, ◌∙◌, ◌^◌, ◌≤◌, ℕ, ◌+◌, ◌<◌, ℤ, ◌+ℤ◌, List, sym, subst, arith, to_z, of_z, unsigned_abs, lit<}
 use Rattle.std.specs.Int.{w128}
 use Rattle.whole_laws.proofs.Order.{clean, size_sum}
 use Rattle.space3.specs.declared.vectors.V3.{V3}
@@ -24,20 +24,29 @@ movers s terms x masses targets built sturdy stand pose e f =
       near = stand.near;
     }))
 
--- the sum of three energies, as it is computed
-pub all_three : (a b c d e f : ℤ) → a ≡ d → b ≡ e → c ≡ f → AtMost (2 ^ 104) a → AtMost (2 ^ 106) b → AtMost (2 ^ 124) c →
-    to_z w128 (of_z w128 (to_z w128 (of_z w128 (to_z w128 (of_z w128 a) +ℤ to_z w128 (of_z w128 b))) +ℤ to_z w128 (of_z w128 c))) ≡ (d +ℤ e) +ℤ f
-all_three a b c d e f p q r h k l =
-    ap (λ (z : ℤ). to_z w128 (of_z w128 z)) ((λ i. two i +ℤ clean w128 c (2 ^ 124) l.bound (lit< tt) i))
-    ∙ clean w128 ((a +ℤ b) +ℤ c) (2 ^ 125) (whole (a +ℤ b) c (small a b h.bound k.bound) l.bound) (lit< tt) ∙ (λ i. (p i +ℤ q i) +ℤ r i)
-  where
-    small : (a b : ℤ) → unsigned_abs a ≤ 2 ^ 104 → unsigned_abs b ≤ 2 ^ 106 → unsigned_abs (a +ℤ b) ≤ 2 ^ 107
-    small a b h k = omega (arith, size_sum a b)
+-- ---- the sum of four energies, as it is computed
+abbrev kept : ℤ → ℤ
+kept z = to_z w128 (of_z w128 z)
 
-    whole : (a b : ℤ) → unsigned_abs a ≤ 2 ^ 107 → unsigned_abs b ≤ 2 ^ 124 → unsigned_abs (a +ℤ b) ≤ 2 ^ 125
-    whole a b h k = omega (arith, size_sum a b)
+-- a number that is passed on as it is
+record IsPassed (x sum : ℤ) (most : ℕ) : Type 0 where
+  same : kept x ≡ sum
+  bound : unsigned_abs sum ≤ most
 
-    two : to_z w128 (of_z w128 (to_z w128 (of_z w128 a) +ℤ to_z w128 (of_z w128 b))) ≡ a +ℤ b
-    two =
-        ap (λ (z : ℤ). to_z w128 (of_z w128 z)) (λ i. clean w128 a (2 ^ 104) h.bound (lit< tt) i +ℤ clean w128 b (2 ^ 106) k.bound (lit< tt) i)
-        ∙ clean w128 (a +ℤ b) (2 ^ 107) (small a b h.bound k.bound) (lit< tt)
+passed : (x sum : ℤ) (most : ℕ) → x ≡ sum → AtMost most x → most < 2 ^ 127 → IsPassed x sum most
+passed x sum most e small few = record { same = clean w128 x most small.bound few ∙ e; bound = subst (λ (z : ℤ). unsigned_abs z ≤ most) e small.bound }
+
+-- and with one more
+passed_with : (x sum y z : ℤ) (m n : ℕ) → IsPassed x sum m → y ≡ z → AtMost n y → n < 2 ^ 127 → m + n < 2 ^ 127 → IsPassed (kept x +ℤ kept y) (sum +ℤ z) (m + n)
+passed_with x sum y z m n h e small few all =
+    let other = passed y z n e small few in
+    let both : kept x +ℤ kept y ≡ sum +ℤ z = λ i. h.same i +ℤ other.same i in
+    let bound : unsigned_abs (sum +ℤ z) ≤ m + n = omega (arith, size_sum sum z, h.bound, other.bound) in
+    passed (kept x +ℤ kept y) (sum +ℤ z) (m + n) both (record { bound = subst (λ (a : ℤ). unsigned_abs a ≤ m + n) (sym both) bound }) all
+
+pub all_four : (a b c d p q r t : ℤ) → a ≡ p → b ≡ q → c ≡ r → d ≡ t → AtMost (2 ^ 104) a → AtMost (2 ^ 106) b → AtMost (2 ^ 123) c → AtMost (2 ^ 123) d →
+    to_z w128 (of_z w128 (kept (kept (kept a +ℤ kept b) +ℤ kept c) +ℤ kept d)) ≡ ((p +ℤ q) +ℤ r) +ℤ t
+all_four a b c d p q r t e f g h k l m n =
+    let two = passed_with a p b q (2 ^ 104) (2 ^ 106) (passed a p (2 ^ 104) e k (lit< tt)) f l (lit< tt) (lit< tt) in
+    let three = passed_with (kept a +ℤ kept b) (p +ℤ q) c r (2 ^ 104 + 2 ^ 106) (2 ^ 123) two g m (lit< tt) (lit< tt) in
+    (passed_with (kept (kept a +ℤ kept b) +ℤ kept c) ((p +ℤ q) +ℤ r) d t (2 ^ 104 + 2 ^ 106 + 2 ^ 123) (2 ^ 123) three h n (lit< tt) (lit< tt)).same

@@ -1,10 +1,15 @@
 pub mod CloseParts
 pub mod Energies
+pub mod FrameContacts
+pub mod FrameMatrices
 pub mod Gradients
 pub mod HeldParts
 pub mod KeptTerms
 pub mod Lightness
 pub mod Parts
 pub mod PullSums
+pub mod SmallBlocks
 pub mod Standing
+pub mod Stiffness
 pub mod Targets
+pub mod Symmetry

@@ -9,7 +9,6 @@ use Rattle.space3.specs.Vectors.{AtMost, Within}
 use Rattle.space3.specs.Wide.{unbounded}
 use Rattle.space3.proofs.Bounds.{within_more, within-sum}
 use Rattle.potential_sum.specs.declared.pulls.Pull.{Pull}
-use Rattle.potential_sum.specs.declared.pulls.Quantity.{Quantity}
 use Rattle.potential_sum.specs.Contributions.{Contribution}
 use Rattle.potential_sum.specs.Calls.Sums.{AreLight, nothing, pulls_of, wide_sum, with_parts, with_pulls}
 
@@ -25,7 +24,7 @@ none most = record { x = zero; y = zero; z = zero }
     zero : AtMost most (pos 0)
     zero = record { bound = omega arith }
 
-lighter : (m n : ℕ) (sums : List W3) → m ≤ n → AreLight m sums → AreLight n sums
+pub lighter : (m n : ℕ) (sums : List W3) → m ≤ n → AreLight m sums → AreLight n sums
 lighter m n sums l h = All-weaker (IsLight m) (IsLight n) (λ sum k. within_more m n (unbounded sum) k l) sums h
 
 -- a pull adds its own size, at most
@@ -52,18 +51,18 @@ light_at sums now pulls i node few weak small e =
     (omega (arith, length-take i pulls))
 
 -- at most four pulls, none of them strong
-pub record IsSmall (q : Quantity) (part : Contribution) : Type 0 where
-  pub few : length (pulls_of q part) ≤ 4
-  pub weak : All IsWeak (pulls_of q part)
+pub record IsSmall (part : Contribution) : Type 0 where
+  pub few : length (pulls_of part) ≤ 4
+  pub weak : All IsWeak (pulls_of part)
 
 -- a contribution adds four times the size of a pull, at most
-pub with_parts-light : (q : Quantity) (most : ℕ) (sums : List W3) (parts : List Contribution) → All (IsSmall q) parts → AreLight most sums → AreLight (most + length parts * 2 ^ 92) (with_parts q sums parts)
-with_parts-light q most sums [] h k = lighter most (most + 0 * 2 ^ 92) sums (omega arith) k
-with_parts-light q most sums (p ∷ ps) h k =
-    let small = All-head (IsSmall q) p ps h in
-    subst (λ (m : ℕ). AreLight m (with_parts q sums (p ∷ ps))) (count most (length ps))
-    (with_parts-light q (most + 2 ^ 92) (with_pulls sums (pulls_of q p)) ps (All-tail (IsSmall q) p ps h)
-    (lighter (most + length (pulls_of q p) * 2 ^ 90) (most + 2 ^ 92) (with_pulls sums (pulls_of q p)) (four most (length (pulls_of q p)) small.few) (with_pulls-light most sums (pulls_of q p) small.weak k)))
+pub with_parts-light : (most : ℕ) (sums : List W3) (parts : List Contribution) → All IsSmall parts → AreLight most sums → AreLight (most + length parts * 2 ^ 92) (with_parts sums parts)
+with_parts-light most sums [] h k = lighter most (most + 0 * 2 ^ 92) sums (omega arith) k
+with_parts-light most sums (p ∷ ps) h k =
+    let small = All-head IsSmall p ps h in
+    subst (λ (m : ℕ). AreLight m (with_parts sums (p ∷ ps))) (count most (length ps))
+    (with_parts-light (most + 2 ^ 92) (with_pulls sums (pulls_of p)) ps (All-tail IsSmall p ps h)
+    (lighter (most + length (pulls_of p) * 2 ^ 90) (most + 2 ^ 92) (with_pulls sums (pulls_of p)) (four most (length (pulls_of p)) small.few) (with_pulls-light most sums (pulls_of p) small.weak k)))
   where
     count : (m l : ℕ) → (m + 2 ^ 92) + l * 2 ^ 92 ≡ m + (suc l) * 2 ^ 92
     count m l = omega arith
@@ -72,16 +71,16 @@ with_parts-light q most sums (p ∷ ps) h k =
     four m l h = omega arith
 
 -- while the pulls of so many contributions are added, each sum stays small
-pub parts_light : (q : Quantity) (most bound : ℕ) (sums now : List W3) (parts : List Contribution) → most + length parts * 2 ^ 92 ≤ bound → All (IsSmall q) parts → AreLight most sums → now ≡ with_parts q sums parts → AreLight bound now
-parts_light q most bound sums now parts few small light e =
+pub parts_light : (most bound : ℕ) (sums now : List W3) (parts : List Contribution) → most + length parts * 2 ^ 92 ≤ bound → All IsSmall parts → AreLight most sums → now ≡ with_parts sums parts → AreLight bound now
+parts_light most bound sums now parts few small light e =
     lighter (most + length parts * 2 ^ 92) bound now few
-    (subst (AreLight (most + length parts * 2 ^ 92)) (sym e) (with_parts-light q most sums parts small light))
+    (subst (AreLight (most + length parts * 2 ^ 92)) (sym e) (with_parts-light most sums parts small light))
 
 -- the sums of nothing, and those of inertia
 pub none_light : (count : ℕ) (sums : List W3) → sums ≡ replicate count nothing → AreLight 0 sums
 none_light count sums e = subst (AreLight 0) (sym e) (All-replicate (IsLight 0) count nothing (none 0))
 
-pub start_light : (q : Quantity) (count : ℕ) (sums : List W3) (parts : List Contribution) → length parts ≤ 16384 → All (IsSmall q) parts → sums ≡ with_parts q (replicate count nothing) parts → AreLight (2 ^ 118) sums
-start_light q count sums parts few small e =
+pub start_light : (count : ℕ) (sums : List W3) (parts : List Contribution) → length parts ≤ 16384 → All IsSmall parts → sums ≡ with_parts (replicate count nothing) parts → AreLight (2 ^ 118) sums
+start_light count sums parts few small e =
     lighter (0 + length parts * 2 ^ 92) (2 ^ 118) sums (omega (arith, few))
-    (subst (AreLight (0 + length parts * 2 ^ 92)) (sym e) (with_parts-light q 0 (replicate count nothing) parts small (none_light count (replicate count nothing) refl)))
+    (subst (AreLight (0 + length parts * 2 ^ 92)) (sym e) (with_parts-light 0 (replicate count nothing) parts small (none_light count (replicate count nothing) refl)))

@@ -10,10 +10,8 @@ use Rattle.num_q.specs.Rounding.{cut_of, floor_of}
 use Rattle.space3.specs.declared.vectors.V3.{V3}
 use Rattle.space3.specs.Vectors.{Within}
 use Rattle.space3.specs.Mesh.{place_of}
-use Rattle.space3.proofs.Bounds.{within_more}
 use Rattle.vec_q.specs.Matrices.{M3, cofactors, determinant_of}
-use Rattle.inertia_term.specs.Inertia.{inertia_block, inertia_gradient, offset_of}
-use Rattle.neo_hooke.specs.Block.{block_at, elastic_block, log_slopes, stretch_entry, volume_entry}
+use Rattle.inertia_term.specs.Inertia.{inertia_gradient, offset_of}
 use Rattle.neo_hooke.specs.Gradient.{balance_of, elastic_gradient, elastic_pulls, pressure, pulls_of as node_pulls}
 use Rattle.neo_hooke.specs.Rest.{RestShape, edge_matrix}
 use Rattle.neo_hooke.specs.Strain.{log_volume, strain_gradient}
@@ -21,17 +19,17 @@ use Rattle.safe_motion.specs.Safety.{PartPair}
 use Rattle.surface_mesh.specs.declared.materials.Numbers.{Numbers}
 use Rattle.nearest.specs.SignedWeights.{signed_sum, signed_weights}
 use Rattle.near_pair.specs.Answers.{near_between}
-use Rattle.barrier_term.specs.Barrier.{barrier_slope, if_active}
-use Rattle.barrier_term.specs.Blocks.{barrier_block, entries, lever, stiffness_at}
+use Rattle.barrier_term.specs.Barrier.{barrier_slope}
 use Rattle.barrier_term.specs.Gradients.{pull_at as barrier_pull_at}
-use Rattle.potential_sum.specs.declared.pulls.Quantity.{Quantity}
-use Rattle.potential_sum.specs.declared.pulls.Quantity.TheVariants as quantities
+use Rattle.friction_lag.specs.Contacts.{LaggedContact}
+use Rattle.friction_lag.proofs.Sizes.{pulls_are_small}
 use Rattle.potential_sum.specs.Bodies.{ElasticTet, corners_at}
 use Rattle.potential_sum.specs.Calls.Barriers.{AreFour, MayPush}
+use Rattle.potential_sum.specs.Calls.Friction.{MaySlide}
 use Rattle.potential_sum.specs.Calls.Inertia.{part_at, pull_of}
 use Rattle.potential_sum.specs.Calls.Kept.{MayStand}
-use Rattle.potential_sum.specs.Calls.Sums.{as_pull, vectors_of}
-use Rattle.potential_sum.specs.Contributions.{barrier_contribution, diagonal_of, elastic_contribution}
+use Rattle.potential_sum.specs.Calls.Sums.{as_pull}
+use Rattle.potential_sum.specs.Contributions.{barrier_contribution, elastic_contribution, friction_contribution}
 use Rattle.potential_sum.proofs.Energies.{cut-small}
 use Rattle.potential_sum.proofs.Lightness.{IsSmall, IsWeak}
 use Rattle.potential_sum.proofs.PullSums.{IsInside}
@@ -60,38 +58,26 @@ pub inertia-pulls-weak : (masses : List ℤ) (targets places : List V3) (node : 
 inertia-pulls-weak masses targets places node =
     All-cons (Within (2 ^ 90)) (pull_of masses targets places node) [] (inertia-weak (get_or masses node (pos 0)) (place_of places node) (place_of targets node)) (All-nil (Within (2 ^ 90)))
 
--- what is cut to 86 bits
-cut_diagonal : (x y z : ℤ) → Within (2 ^ 90) (record { x = cut_of 86 x; y = cut_of 86 y; z = cut_of 86 z })
-cut_diagonal x y z = within_more (2 ^ 86) (2 ^ 90) _ (record { x = cut-small 86 x; y = cut-small 86 y; z = cut-small 86 z }) (lit≤ tt)
+one_small : (node : ℕ) (v : V3) → Within (2 ^ 90) v → All IsWeak (as_pull (node, v) ∷ [])
+one_small node v h = All-cons IsWeak (as_pull (node, v)) [] h (All-nil IsWeak)
 
-inertia-stiff : (mass : ℤ) → Within (2 ^ 90) (diagonal_of (inertia_block mass))
-inertia-stiff mass = cut_diagonal (pos 2 *ℤ mass) (pos 2 *ℤ mass) (pos 2 *ℤ mass)
-
-one_small : (q : Quantity) (node : ℕ) (v : V3) → Within (2 ^ 90) v → All IsWeak (as_pull (node, v) ∷ [])
-one_small q node v h = All-cons IsWeak (as_pull (node, v)) [] h (All-nil IsWeak)
-
-pub inertia-part-small : (q : Quantity) (masses : List ℤ) (targets places : List V3) (node : ℕ) → IsSmall q (part_at masses targets places node)
-inertia-part-small quantities.Pull masses targets places node = record {
+pub inertia-part-small : (masses : List ℤ) (targets places : List V3) (node : ℕ) → IsSmall (part_at masses targets places node)
+inertia-part-small masses targets places node = record {
   few = lit≤ tt;
-  weak = one_small quantities.Pull node (pull_of masses targets places node) (inertia-weak (get_or masses node (pos 0)) (place_of places node) (place_of targets node));
-}
-inertia-part-small quantities.Stiffness masses targets places node = record {
-  few = lit≤ tt;
-  weak = one_small quantities.Stiffness node (diagonal_of (inertia_block (get_or masses node (pos 0)))) (inertia-stiff (get_or masses node (pos 0)));
+  weak = one_small node (pull_of masses targets places node) (inertia-weak (get_or masses node (pos 0)) (place_of places node) (place_of targets node));
 }
 
 one_inside : (count node : ℕ) (v : V3) → node < count → All (λ (pull : ℕ × V3). pull.0 < count) ((node, v) ∷ [])
 one_inside count node v h = All-cons (λ (pull : ℕ × V3). pull.0 < count) (node, v) [] h (All-nil (λ (pull : ℕ × V3). pull.0 < count))
 
-pub inertia-part-inside : (q : Quantity) (masses : List ℤ) (targets places : List V3) (count node : ℕ) → node < count → IsInside q count (part_at masses targets places node)
-inertia-part-inside quantities.Pull masses targets places count node h = one_inside count node (pull_of masses targets places node) h
-inertia-part-inside quantities.Stiffness masses targets places count node h = one_inside count node (diagonal_of (inertia_block (get_or masses node (pos 0)))) h
+pub inertia-part-inside : (masses : List ℤ) (targets places : List V3) (count node : ℕ) → node < count → IsInside count (part_at masses targets places node)
+inertia-part-inside masses targets places count node h = one_inside count node (pull_of masses targets places node) h
 
-pub inertia-parts-small : (q : Quantity) (masses : List ℤ) (targets places : List V3) (n : ℕ) → All (IsSmall q) (map (part_at masses targets places) (range_with_len 0 n))
-inertia-parts-small q masses targets places n = All-map (IsSmall q) (part_at masses targets places) (range_with_len 0 n) (λ k d l. inertia-part-small q masses targets places _)
+pub inertia-parts-small : (masses : List ℤ) (targets places : List V3) (n : ℕ) → All IsSmall (map (part_at masses targets places) (range_with_len 0 n))
+inertia-parts-small masses targets places n = All-map IsSmall (part_at masses targets places) (range_with_len 0 n) (λ k d l. inertia-part-small masses targets places _)
 
-pub inertia-parts-inside : (q : Quantity) (masses : List ℤ) (targets places : List V3) (n : ℕ) → All (IsInside q n) (map (part_at masses targets places) (range_with_len 0 n))
-inertia-parts-inside q masses targets places n = All-map (IsInside q n) (part_at masses targets places) (range_with_len 0 n) (All-counted (λ node. IsInside q n (part_at masses targets places node)) n (λ node h. inertia-part-inside q masses targets places n node h))
+pub inertia-parts-inside : (masses : List ℤ) (targets places : List V3) (n : ℕ) → All (IsInside n) (map (part_at masses targets places) (range_with_len 0 n))
+inertia-parts-inside masses targets places n = All-map (IsInside n) (part_at masses targets places) (range_with_len 0 n) (All-counted (λ node. IsInside n (part_at masses targets places node)) n (λ node h. inertia-part-inside masses targets places n node h))
 
 -- ---- elasticity
 column-weak : (mu r outward : ℤ) (strain cofactor : V3) → Within (2 ^ 90) (elastic_pulls mu r outward strain cofactor)
@@ -137,19 +123,6 @@ gradient-weak rest mu lambda x =
 pub elastic-pulls-weak : (x : List V3) (tet : ElasticTet) → All (Within (2 ^ 90)) (elastic_contribution x tet).pulls
 elastic-pulls-weak x tet = gradient-weak tet.rest tet.mu tet.lambda (corners_at x tet.nodes)
 
--- the diagonal of a block of a node with itself
-block-stiff : (rest : RestShape) (mu lambda : ℤ) (x : List V3) (i : ℕ) → Within (2 ^ 90) (diagonal_of (elastic_block rest mu lambda x i i))
-unfolding block_at
-block-stiff rest mu lambda x i =
-    let edges = edge_matrix x in
-    let h = log_slopes edges i in
-    let stretch = stretch_entry rest mu i i in
-    let stiffness = rest.r *ℤ (mu +ℤ lambda) in
-    cut_diagonal (stretch +ℤ volume_entry stiffness h.x h.x) (stretch +ℤ volume_entry stiffness h.y h.y) (stretch +ℤ volume_entry stiffness h.z h.z)
-
-pub elastic-diagonals-weak : (x : List V3) (tet : ElasticTet) → All (Within (2 ^ 90)) (elastic_contribution x tet).diagonals
-elastic-diagonals-weak x tet = All-map (Within (2 ^ 90)) (λ (i : ℕ). diagonal_of (elastic_block tet.rest tet.mu tet.lambda (corners_at x tet.nodes) i i)) (0 ∷ 1 ∷ 2 ∷ 3 ∷ []) (λ k d l. block-stiff tet.rest tet.mu tet.lambda (corners_at x tet.nodes) _)
-
 -- at most four vectors, none of them strong
 four_small : (nodes : List ℕ) (vectors : List V3) → length nodes ≤ 4 ⊎ length vectors ≤ 4 → All (Within (2 ^ 90)) vectors → length (map as_pull (zip nodes vectors)) ≤ 4 × All IsWeak (map as_pull (zip nodes vectors))
 four_small nodes vectors e h = (few e, All-map IsWeak as_pull (zip nodes vectors) (All-zip_right (Within (2 ^ 90)) nodes vectors h))
@@ -158,14 +131,12 @@ four_small nodes vectors e h = (few e, All-map IsWeak as_pull (zip nodes vectors
     few (inl l) = omega (arith, length-map (zip nodes vectors) as_pull, length-zip nodes vectors)
     few (inr l) = omega (arith, length-map (zip nodes vectors) as_pull, length-zip nodes vectors)
 
-pub elastic-part-small : (q : Quantity) (x : List V3) (tet : ElasticTet) → IsSmall q (elastic_contribution x tet)
-elastic-part-small quantities.Pull x tet =
+pub elastic-part-small : (x : List V3) (tet : ElasticTet) → IsSmall (elastic_contribution x tet)
+elastic-part-small x tet =
     let small = four_small tet.nodes (elastic_contribution x tet).pulls (inr (lit≤ tt)) (elastic-pulls-weak x tet) in record { few = small.0; weak = small.1 }
-elastic-part-small quantities.Stiffness x tet =
-    let small = four_small tet.nodes (elastic_contribution x tet).diagonals (inr (lit≤ tt)) (elastic-diagonals-weak x tet) in record { few = small.0; weak = small.1 }
 
-pub elastic-part-inside : (q : Quantity) (x : List V3) (tet : ElasticTet) → MayStand x tet → IsInside q (length x) (elastic_contribution x tet)
-elastic-part-inside q x tet h = All-zip_left (λ node. node < length x) tet.nodes (vectors_of q (elastic_contribution x tet)) h.there
+pub elastic-part-inside : (x : List V3) (tet : ElasticTet) → MayStand x tet → IsInside (length x) (elastic_contribution x tet)
+elastic-part-inside x tet h = All-zip_left (λ node. node < length x) tet.nodes ((elastic_contribution x tet).pulls) h.there
 
 -- ---- barriers
 pub barrier-pulls-weak : (numbers : Numbers) (x : List V3) (parts : PartPair) → All (Within (2 ^ 90)) (barrier_contribution numbers x parts).pulls
@@ -180,28 +151,24 @@ barrier-pulls-weak numbers x parts =
     let weight = get_or signed k d in
     cut_vector (floor_of (slope *ℤ weight *ℤ way.x) (pos (2 ^ 39))) (floor_of (slope *ℤ weight *ℤ way.y) (pos (2 ^ 39))) (floor_of (slope *ℤ weight *ℤ way.z) (pos (2 ^ 39))))
 
-barrier-stiff : (stiffness : ℤ) (a : V3) → Within (2 ^ 90) (diagonal_of (entries stiffness a a))
-barrier-stiff stiffness a = cut_diagonal (floor_of (stiffness *ℤ a.x *ℤ a.x) (pos (2 ^ 22))) (floor_of (stiffness *ℤ a.y *ℤ a.y) (pos (2 ^ 22))) (floor_of (stiffness *ℤ a.z *ℤ a.z) (pos (2 ^ 22)))
-
-pub barrier-diagonals-weak : (numbers : Numbers) (x : List V3) (parts : PartPair) → All (Within (2 ^ 90)) (barrier_contribution numbers x parts).diagonals
-barrier-diagonals-weak numbers x parts =
-    let first = map (place_of x) parts.left in
-    let second = map (place_of x) parts.right in
-    let near = near_between first second in
-    let signed = signed_weights (length parts.left) near.weights in
-    let way = signed_sum signed (first ++ second) in
-    All-map (Within (2 ^ 90)) (λ (i : ℕ). diagonal_of (barrier_block numbers.kappa numbers.dhat near (length parts.left) (first ++ second) i i)) (0 ∷ 1 ∷ 2 ∷ 3 ∷ [])
-    (λ k d l. barrier-stiff (if_active numbers.dhat near (stiffness_at numbers.kappa)) (lever way (get_or signed (get_or (0 ∷ 1 ∷ 2 ∷ 3 ∷ []) k d) (pos 0))))
-
 four_nodes : (parts : PartPair) → AreFour parts → length (parts.left ++ parts.right) ≤ 4
 four_nodes parts (inl h) = omega (arith, length-append parts.left parts.right, h.0, h.1)
 four_nodes parts (inr h) = omega (arith, length-append parts.left parts.right, h.0, h.1)
 
-pub barrier-part-small : (q : Quantity) (numbers : Numbers) (x : List V3) (parts : PartPair) → MayPush x parts → IsSmall q (barrier_contribution numbers x parts)
-barrier-part-small quantities.Pull numbers x parts h =
+pub barrier-part-small : (numbers : Numbers) (x : List V3) (parts : PartPair) → MayPush x parts → IsSmall (barrier_contribution numbers x parts)
+barrier-part-small numbers x parts h =
     let small = four_small (parts.left ++ parts.right) (barrier_contribution numbers x parts).pulls (inl (four_nodes parts h.four)) (barrier-pulls-weak numbers x parts) in record { few = small.0; weak = small.1 }
-barrier-part-small quantities.Stiffness numbers x parts h =
-    let small = four_small (parts.left ++ parts.right) (barrier_contribution numbers x parts).diagonals (inl (four_nodes parts h.four)) (barrier-diagonals-weak numbers x parts) in record { few = small.0; weak = small.1 }
 
-pub barrier-part-inside : (q : Quantity) (numbers : Numbers) (x : List V3) (parts : PartPair) → MayPush x parts → IsInside q (length x) (barrier_contribution numbers x parts)
-barrier-part-inside q numbers x parts h = All-zip_left (λ node. node < length x) (parts.left ++ parts.right) (vectors_of q (barrier_contribution numbers x parts)) h.there
+pub barrier-part-inside : (numbers : Numbers) (x : List V3) (parts : PartPair) → MayPush x parts → IsInside (length x) (barrier_contribution numbers x parts)
+barrier-part-inside numbers x parts h = All-zip_left (λ node. node < length x) (parts.left ++ parts.right) (barrier_contribution numbers x parts).pulls h.there
+
+-- ---- friction
+pub friction-pulls-weak : (numbers : Numbers) (x : List V3) (contact : LaggedContact) → All (Within (2 ^ 90)) (friction_contribution numbers x contact).pulls
+friction-pulls-weak numbers x contact = pulls_are_small contact numbers.friction numbers.slip (corners_at x contact.nodes)
+
+pub friction-part-small : (numbers : Numbers) (x : List V3) (contact : LaggedContact) → MaySlide x contact → IsSmall (friction_contribution numbers x contact)
+friction-part-small numbers x contact h =
+    let small = four_small contact.nodes (friction_contribution numbers x contact).pulls (inl (omega (arith, h.four))) (friction-pulls-weak numbers x contact) in record { few = small.0; weak = small.1 }
+
+pub friction-part-inside : (numbers : Numbers) (x : List V3) (contact : LaggedContact) → MaySlide x contact → IsInside (length x) (friction_contribution numbers x contact)
+friction-part-inside numbers x contact h = All-zip_left (λ node. node < length x) contact.nodes ((friction_contribution numbers x contact).pulls) h.there

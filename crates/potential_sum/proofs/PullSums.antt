@@ -12,10 +12,9 @@ use Rattle.list_laws.proofs.CountedWrites.{get_or-counted, replicate-counted, se
 use Rattle.space3.specs.declared.vectors.V3.{V3}
 use Rattle.space3.specs.declared.vectors.W3.{W3}
 use Rattle.space3.specs.Vectors.{Within, origin, vector, sum_of}
-use Rattle.potential_sum.specs.declared.pulls.Quantity.{Quantity}
 use Rattle.potential_sum.specs.Calls.Barriers.{AreDifferent}
-use Rattle.potential_sum.specs.Contributions.{Contribution, sum_at, vector_total}
-use Rattle.potential_sum.specs.Calls.Sums.{as_pull, node_sums, nothing, pulls_of, vector_at, vectors_of, wide, wide_sum, with_parts, with_pulls}
+use Rattle.potential_sum.specs.Contributions.{Contribution, pull_at, sum_at, vector_total}
+use Rattle.potential_sum.specs.Calls.Sums.{as_pull, node_sums, nothing, pulls_of, wide, wide_sum, with_parts, with_pulls}
 
 -- ---- sums of vectors
 sum_of-origin : (a : V3) → sum_of a origin ≡ a
@@ -86,36 +85,36 @@ scattered f count (p ∷ ps) there =
 
 -- ---- contributions
 -- each node of a contribution is below so many
-abbrev pub IsInside : Quantity → ℕ → Contribution → Type 0
-IsInside q count part = All (λ pull. pull.0 < count) (zip part.nodes (vectors_of q part))
+abbrev pub IsInside : ℕ → Contribution → Type 0
+IsInside count part = All (λ pull. pull.0 < count) (zip part.nodes part.pulls)
 
-one_more : (q : Quantity) (count : ℕ) (done : List Contribution) (part : Contribution) → IsInside q count part → with_pulls (node_sums q count done) (pulls_of q part) ≡ node_sums q count (done ++ part ∷ [])
-one_more q count done part inside =
-    scattered (λ k. vector_total (map (vector_at q k) done)) count (zip part.nodes (vectors_of q part)) inside
-    ∙ (λ i. sums_at (λ k. sym (ap vector_total (map-push (vector_at q k) done part) ∙ vector_total-push (map (vector_at q k) done) (vector_at q k part)) i) count)
+one_more : (count : ℕ) (done : List Contribution) (part : Contribution) → IsInside count part → with_pulls (node_sums count done) (pulls_of part) ≡ node_sums count (done ++ part ∷ [])
+one_more count done part inside =
+    scattered (λ k. vector_total (map (pull_at k) done)) count (zip part.nodes part.pulls) inside
+    ∙ (λ i. sums_at (λ k. sym (ap vector_total (map-push (pull_at k) done part) ∙ vector_total-push (map (pull_at k) done) (pull_at k part)) i) count)
 
-pub with_parts-sums : (q : Quantity) (count : ℕ) (done parts : List Contribution) → All (IsInside q count) parts → with_parts q (node_sums q count done) parts ≡ node_sums q count (done ++ parts)
-with_parts-sums q count done [] inside = ap (node_sums q count) (sym (append-nil done))
+pub with_parts-sums : (count : ℕ) (done parts : List Contribution) → All (IsInside count) parts → with_parts (node_sums count done) parts ≡ node_sums count (done ++ parts)
+with_parts-sums count done [] inside = ap (node_sums count) (sym (append-nil done))
   where
     append-nil : (xs : List Contribution) → xs ++ [] ≡ xs
     append-nil [] = refl
     append-nil (x ∷ xs) = ap (λ (ys : List Contribution). x ∷ ys) (append-nil xs)
-with_parts-sums q count done (part ∷ parts) inside =
-    ap (λ (sums : List W3). with_parts q sums parts) (one_more q count done part (All-head (IsInside q count) part parts inside))
-    ∙ with_parts-sums q count (done ++ part ∷ []) parts (All-tail (IsInside q count) part parts inside)
-    ∙ ap (node_sums q count) (append_assoc done (part ∷ []) parts)
+with_parts-sums count done (part ∷ parts) inside =
+    ap (λ (sums : List W3). with_parts sums parts) (one_more count done part (All-head (IsInside count) part parts inside))
+    ∙ with_parts-sums count (done ++ part ∷ []) parts (All-tail (IsInside count) part parts inside)
+    ∙ ap (node_sums count) (append_assoc done (part ∷ []) parts)
 
 -- the pulls of one contribution more
-pub with_parts-push : (q : Quantity) (sums : List W3) (parts : List Contribution) (part : Contribution) → with_parts q sums (parts ++ part ∷ []) ≡ with_pulls (with_parts q sums parts) (pulls_of q part)
-with_parts-push q sums [] part = refl
-with_parts-push q sums (p ∷ ps) part = with_parts-push q (with_pulls sums (pulls_of q p)) ps part
+pub with_parts-push : (sums : List W3) (parts : List Contribution) (part : Contribution) → with_parts sums (parts ++ part ∷ []) ≡ with_pulls (with_parts sums parts) (pulls_of part)
+with_parts-push sums [] part = refl
+with_parts-push sums (p ∷ ps) part = with_parts-push (with_pulls sums (pulls_of p)) ps part
 
 -- no sum yet
-pub node_sums-none : (q : Quantity) (count : ℕ) → replicate count nothing ≡ node_sums q count []
-node_sums-none q count = replicate-counted nothing 0 count
+pub node_sums-none : (count : ℕ) → replicate count nothing ≡ node_sums count []
+node_sums-none count = replicate-counted nothing 0 count
 
-pub length-node_sums : (q : Quantity) (count : ℕ) (parts : List Contribution) → length (node_sums q count parts) ≡ count
-length-node_sums q count parts = length-map-range_with_len (λ node. wide (vector_total (map (vector_at q node) parts))) 0 count
+pub length-node_sums : (count : ℕ) (parts : List Contribution) → length (node_sums count parts) ≡ count
+length-node_sums count parts = length-map-range_with_len (λ node. wide (vector_total (map (pull_at node) parts))) 0 count
 
 -- a whole list that is written back
 pub written_back : (now old : List W3) (count : ℕ) → length now ≡ count → take count (now ++ drop (length now) old) ≡ now

@@ -1,7 +1,8 @@
 pub mod Bodies
 pub mod Calls
+pub mod Contacts
 pub mod Contributions
-pub mod Diagonals
+pub mod Matrix
 pub mod Potential
 pub mod Terms
 pub mod Upright

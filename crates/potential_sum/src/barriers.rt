@@ -1,6 +1,7 @@
 //! The barriers between close parts of the surface.
-ghost use Rattle.std.specs.Prelude.{◌≡◌, ◌≤◌, ◌<◌, ◌^◌, IfOk, All, map, length, unsigned_abs};
+ghost use Rattle.std.specs.Prelude.{◌≡◌, ◌≤◌, ◌<◌, ◌^◌, IfOk, IfNone, IfSome, All, map, length, unsigned_abs};
 ghost use Rattle.list_laws.specs.Sums.{total};
+ghost use Rattle.space3.specs.Box.{IsInTheBox};
 ghost use Rattle.space3.specs.Vectors.{AtMost};
 ghost use Rattle.vec_q.specs.Rows.{components};
 ghost use Rattle.near_pair.specs.Answers.{IsBounded, IsOn};
@@ -10,16 +11,19 @@ ghost use Rattle.broad_grid.specs.NearPairs.{close_pairs_of};
 ghost use Rattle.surface_mesh.specs.declared.materials.Numbers.{Numbers};
 ghost use Rattle.surface_mesh.specs.Materials.{AreNumbers};
 ghost use Rattle.surface_mesh.specs.Setup.{IsSetup};
-ghost use Rattle.potential_sum.specs.declared.pulls.Quantity.TheVariants as quantities;
 ghost use Rattle.potential_sum.specs.Calls.Barriers.{AreFour, IsClosePair, MayPush, barrier_at};
 ghost use Rattle.potential_sum.specs.Calls.Barriers.{barrier_of, parts_in};
+ghost use Rattle.potential_sum.specs.Calls.Stiffness.{HasNoBlocks, sixteen_of};
 ghost use Rattle.potential_sum.specs.Calls.Sums.{AreLight, pulls_of, with_parts};
-ghost use Rattle.potential_sum.specs.Contributions.{barrier_contribution, diagonal_of};
+ghost use Rattle.potential_sum.specs.Contributions.{barrier_contribution};
+ghost use Rattle.potential_sum.specs.Contacts.{near_of_parts, points_of_parts};
+ghost use Rattle.potential_sum.specs.declared.contacts.TheConstants.{MOST_CLOSE};
 ghost use Rattle.potential_sum.specs.Upright.{IsUpright};
 
+use crate::blocks::Block;
 use crate::bodies::corners_at;
-use crate::pulls::{Pull, Quantity, add_pulls, diagonal_of, pull_at};
-use barrier_term::{barrier_block, barrier_energy, barrier_gradient};
+use crate::pulls::{Pull, add_pulls, pull_at};
+use barrier_term::{barrier_blocks, barrier_energy, barrier_gradient};
 use boundary::{Pair, Surface};
 use broad_grid::{PairList, close_pairs};
 use near_pair::{Near, near_parts};
@@ -49,7 +53,7 @@ pub(crate) struct TwoParts {
 }
 
 // The nodes of a pair's parts.
-fn parts_of(surface: &Surface, pair: Pair) -> TwoParts
+pub(crate) fn parts_of(surface: &Surface, pair: Pair) -> TwoParts
     requires pair { IsPair surface.now pair }
     requires four { AreFour (part_pair surface.now pair) }
     ensures { parts_in result ≡ part_pair surface.now pair }
@@ -71,15 +75,18 @@ fn parts_of(surface: &Surface, pair: Pair) -> TwoParts
 
 /// Where the four nodes of two parts stand, and the nearest points of the parts.
 #[derive(Clone, Copy)]
-struct Nearest {
-    points: [V3; 4],
-    near: Near,
+pub(crate) struct Nearest {
+    pub points: [V3; 4],
+    pub near: Near,
 }
 
 impl TwoParts {
     // The nearest points where the nodes stand at x.
-    fn nearest(&self, x: &Places) -> Nearest
+    pub(crate) fn nearest(&self, x: &Places) -> Nearest
         requires { MayPush x.now (parts_in self.now) }
+        ensures points { result.points ≡ points_of_parts x.now (parts_in self.now) }
+        ensures near { result.near ≡ near_of_parts x.now (parts_in self.now) }
+        ensures placed { All IsInTheBox result.points }
         ensures barrier { (numbers : Numbers) →
             barrier_of numbers self.now.nodes self.now.split result.points result.near
             ≡ barrier_contribution numbers x.now (parts_in self.now) }
@@ -101,24 +108,11 @@ impl TwoParts {
         barrier_energy(numbers.kappa, numbers.dhat, &found.near)
     }
 
-    // The vectors of a quantity at the four nodes.
-    fn vectors(&self, quantity: Quantity, numbers: &Numbers, x: &Places) -> [Pull; 4]
-        requires numbers { AreNumbers numbers.now }
-        requires close { MayPush x.now (parts_in self.now) }
-        ensures { result ≡
-            pulls_of quantity (barrier_contribution numbers.now x.now (parts_in self.now)) }
-    {
-        match quantity {
-            Quantity::Pull => self.pulls(numbers, x),
-            Quantity::Stiffness => self.diagonals(numbers, x),
-        }
-    }
-
     // What pulls at the four nodes.
     fn pulls(&self, numbers: &Numbers, x: &Places) -> [Pull; 4]
         requires numbers { AreNumbers numbers.now }
         requires close { MayPush x.now (parts_in self.now) }
-        ensures { result ≡ pulls_of quantities.Pull
+        ensures { result ≡ pulls_of
             (barrier_contribution numbers.now x.now (parts_in self.now)) }
     {
         let Nearest { points, near } = self.nearest(x);
@@ -131,33 +125,17 @@ impl TwoParts {
         ]
     }
 
-    // What is added to the diagonal at the four nodes.
-    fn diagonals(&self, numbers: &Numbers, x: &Places) -> [Pull; 4]
+    // The blocks of the four nodes, or none where each is 0.
+    pub(crate) fn blocks(&self, numbers: &Numbers, x: &Places) -> Option<[[Block; 4]; 4]>
         requires numbers { AreNumbers numbers.now }
         requires close { MayPush x.now (parts_in self.now) }
-        ensures { result ≡ pulls_of quantities.Stiffness
-            (barrier_contribution numbers.now x.now (parts_in self.now)) }
+        ensures some { IfSome result (λ blocks.
+            blocks ≡ sixteen_of (barrier_contribution numbers.now x.now (parts_in self.now))) }
+        ensures none { IfNone result
+            (HasNoBlocks (barrier_contribution numbers.now x.now (parts_in self.now))) }
     {
         let Nearest { points, near } = self.nearest(x);
-        [
-            pull_at(self.nodes[0], self.diagonal(numbers, &near, &points, 0)),
-            pull_at(self.nodes[1], self.diagonal(numbers, &near, &points, 1)),
-            pull_at(self.nodes[2], self.diagonal(numbers, &near, &points, 2)),
-            pull_at(self.nodes[3], self.diagonal(numbers, &near, &points, 3)),
-        ]
-    }
-
-    // The diagonal of the block of a point with itself.
-    fn diagonal(&self, numbers: &Numbers, near: &Near, points: &[V3; 4], i: u8) -> [i128; 3]
-        requires numbers { AreNumbers numbers.now }
-        requires bounded { IsBounded near.now }
-        requires on { IsOn self.now.split points.now near.now }
-        requires there { i < 4 }
-        ensures { result ≡ components (diagonal_of (barrier_block numbers.now.kappa
-            numbers.now.dhat near.now self.now.split points.now i i)) }
-    {
-        let block = barrier_block(numbers.kappa, numbers.dhat, near, self.split, points, i, i);
-        diagonal_of(block)
+        barrier_blocks(numbers.kappa, numbers.dhat, &near, self.split, &points)
     }
 }
 
@@ -165,9 +143,9 @@ impl TwoParts {
 pub(crate) fn barrier_energy_of(setup: &Setup, x: &Places, pairs: &[Pair]) -> i128
     requires numbers { AreNumbers setup.now.numbers }
     requires close { All (IsClosePair setup.now x.now) pairs.now }
-    requires few { length pairs.now ≤ 12884901888 }
+    requires few { length pairs.now ≤ MOST_CLOSE }
     ensures value { result ≡ total (map (λ pair. (barrier_at setup.now x.now pair).energy) pairs.now) }
-    ensures small { AtMost (2 ^ 124) result }
+    ensures small { AtMost (2 ^ 123) result }
 {
     let mut sum = 0;
     for pair in pairs {
@@ -177,23 +155,18 @@ pub(crate) fn barrier_energy_of(setup: &Setup, x: &Places, pairs: &[Pair]) -> i1
 }
 
 // Adds what the barriers of these pairs give at each node.
-pub(crate) fn add_barrier_vectors(
-    quantity: Quantity,
-    sums: &mut [W3],
-    setup: &Setup,
-    x: &Places,
-    pairs: &[Pair],
-)
+pub(crate) fn add_barrier_pulls(sums: &mut [W3], setup: &Setup, x: &Places, pairs: &[Pair])
     requires nodes { length sums.old ≡ length x.now }
     requires numbers { AreNumbers setup.now.numbers }
     requires close { All (IsClosePair setup.now x.now) pairs.now }
-    requires few { length pairs.now ≤ 12884901888 }
-    requires small { AreLight (2 ^ 120) sums.old }
-    ensures { sums.new ≡ with_parts quantity sums.old
+    requires few { length pairs.now ≤ MOST_CLOSE }
+    requires light { AreLight (2 ^ 120) sums.old }
+    ensures sums { sums.new ≡ with_parts sums.old
         (map (barrier_at setup.now x.now) pairs.now) }
+    ensures light { AreLight (2 ^ 125) sums.new }
 {
     for pair in pairs {
         let parts = parts_of(&setup.surface, *pair);
-        add_pulls(sums, &parts.vectors(quantity, &setup.numbers, x));
+        add_pulls(sums, &parts.pulls(&setup.numbers, x));
     }
 }

@@ -1,6 +1,7 @@
 //! The tetrahedra of bodies, made ready for many calls.
 ghost use Rattle.std.specs.Prelude.{◌≡◌, ◌≤◌, ◌<◌, ◌^◌, IfOk, All, map, length};
 ghost use Rattle.list_laws.specs.Sums.{total};
+ghost use Rattle.space3.specs.Box.{IsInTheBox};
 ghost use Rattle.space3.specs.Mesh.{HasNodes};
 ghost use Rattle.space3.specs.Vectors.{AtMost};
 ghost use Rattle.surface_mesh.specs.Setup.{IsSetup};
@@ -9,13 +10,14 @@ ghost use Rattle.surface_mesh.specs.Materials.{IsMaterial, material_of};
 ghost use Rattle.vec_q.specs.Rows.{components};
 ghost use Rattle.neo_hooke.specs.Block.{elastic_block};
 ghost use Rattle.neo_hooke.specs.Rest.{CanRest, CanStand};
-ghost use Rattle.potential_sum.specs.declared.pulls.Quantity.TheVariants as quantities;
 ghost use Rattle.potential_sum.specs.Bodies.{corners_at, elastic_of, elastic_tets};
 ghost use Rattle.potential_sum.specs.Calls.Kept.{MayStand, elastic_in};
+ghost use Rattle.potential_sum.specs.Calls.Stiffness.{sixteen_of};
 ghost use Rattle.potential_sum.specs.Calls.Sums.{AreLight, pulls_of, with_parts};
-ghost use Rattle.potential_sum.specs.Contributions.{diagonal_of, elastic_contribution};
+ghost use Rattle.potential_sum.specs.Contributions.{elastic_contribution};
 
-use crate::pulls::{Pull, Quantity, add_pulls, pull_at};
+use crate::blocks::Block;
+use crate::pulls::{Pull, add_pulls, pull_at};
 use neo_hooke::{Element, rest_tet};
 use space3::{Places, Tet, V3, W3};
 use std::alloc::{AllocError, Global};
@@ -59,7 +61,8 @@ fn body_of(setup: &Setup, tet: &Tet) -> Body
 /// Where four nodes stand.
 pub(crate) fn corners_at(places: &Places, nodes: &[u32; 4]) -> [V3; 4]
     requires { HasNodes places.now nodes.now }
-    ensures { result ≡ corners_at places.now nodes.now }
+    ensures value { result ≡ corners_at places.now nodes.now }
+    ensures placed { All IsInTheBox result }
 {
     [
         places.get(nodes[0]),
@@ -78,22 +81,11 @@ impl Body {
         self.element.energy(&corners_at(x, &self.nodes))
     }
 
-    // The vectors of a quantity at the four nodes.
-    fn vectors(&self, quantity: Quantity, x: &Places) -> [Pull; 4]
-        requires { MayStand x.now (elastic_in self.now) }
-        ensures { result ≡ pulls_of quantity (elastic_contribution x.now (elastic_in self.now)) }
-    {
-        match quantity {
-            Quantity::Pull => self.pulls(x),
-            Quantity::Stiffness => self.diagonals(x),
-        }
-    }
-
     // What pulls at the four nodes.
     fn pulls(&self, x: &Places) -> [Pull; 4]
         requires { MayStand x.now (elastic_in self.now) }
         ensures { result ≡
-            pulls_of quantities.Pull (elastic_contribution x.now (elastic_in self.now)) }
+            pulls_of (elastic_contribution x.now (elastic_in self.now)) }
     {
         let pulls = self.element.gradient(&corners_at(x, &self.nodes));
         [
@@ -104,31 +96,12 @@ impl Body {
         ]
     }
 
-    // What is added to the diagonal at the four nodes.
-    fn diagonals(&self, x: &Places) -> [Pull; 4]
+    // The blocks of its nodes.
+    pub fn blocks(&self, x: &Places) -> [[Block; 4]; 4]
         requires { MayStand x.now (elastic_in self.now) }
-        ensures { result ≡
-            pulls_of quantities.Stiffness (elastic_contribution x.now (elastic_in self.now)) }
+        ensures { result ≡ sixteen_of (elastic_contribution x.now (elastic_in self.now)) }
     {
-        let corners = corners_at(x, &self.nodes);
-        [
-            pull_at(self.nodes[0], self.diagonal(&corners, 0)),
-            pull_at(self.nodes[1], self.diagonal(&corners, 1)),
-            pull_at(self.nodes[2], self.diagonal(&corners, 2)),
-            pull_at(self.nodes[3], self.diagonal(&corners, 3)),
-        ]
-    }
-
-    // The diagonal of the block of a node with itself.
-    fn diagonal(&self, corners: &[V3; 4], i: u8) -> [i128; 3]
-        requires stand { CanStand corners.now }
-        requires there { i < 4 }
-        ensures { result ≡ components (diagonal_of
-            (elastic_block (elastic_in self.now).rest (elastic_in self.now).mu
-            (elastic_in self.now).lambda corners.now i i)) }
-    {
-        let block = self.element.block(corners, i, i);
-        [block[0][0], block[1][1], block[2][2]]
+        self.element.blocks(&corners_at(x, &self.nodes))
     }
 }
 
@@ -148,15 +121,15 @@ pub(crate) fn elastic_energy(bodies: &[Body], x: &Places) -> i128
 }
 
 // Adds what elasticity gives at each node.
-pub(crate) fn add_elastic_vectors(quantity: Quantity, sums: &mut [W3], bodies: &[Body], x: &Places)
+pub(crate) fn add_elastic_pulls(sums: &mut [W3], bodies: &[Body], x: &Places)
     requires nodes { length sums.old ≡ length x.now }
     requires few { length bodies.now ≤ 65536 }
     requires stand { All (λ body. MayStand x.now (elastic_in body)) bodies.now }
     requires small { AreLight (2 ^ 118) sums.old }
-    ensures { sums.new ≡ with_parts quantity sums.old
+    ensures { sums.new ≡ with_parts sums.old
         (map (λ body. elastic_contribution x.now (elastic_in body)) bodies.now) }
 {
     for body in bodies {
-        add_pulls(sums, &body.vectors(quantity, x));
+        add_pulls(sums, &body.pulls(x));
     }
 }

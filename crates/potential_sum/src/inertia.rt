@@ -11,10 +11,9 @@ ghost use Rattle.inertia_term.specs.declared.target.TheConstants.{FARTHEST_TARGE
 ghost use Rattle.potential_sum.specs.Calls.Inertia.{AreMovers, energy_at, part_at, pull_of};
 ghost use Rattle.potential_sum.specs.Calls.Sums.{AreLight, as_pull, pulls_of, with_parts};
 ghost use Rattle.inertia_term.specs.Inertia.{inertia_block};
-ghost use Rattle.potential_sum.specs.Contributions.{diagonal_of};
 ghost use Rattle.potential_sum.specs.Terms.{targets_of};
 
-use crate::pulls::{Pull, Quantity, add_pulls, pull_at};
+use crate::pulls::{Pull, add_pulls, pull_at};
 use inertia_term::{inertia_block, inertia_energy, inertia_gradient, target_of};
 use space3::{Places, V3, W3};
 use std::alloc::{AllocError, Global};
@@ -65,46 +64,17 @@ fn node_energy(masses: &[i128], targets: &[V3], x: &Places, node: u32) -> i128
 }
 
 // Adds what inertia gives at each node.
-pub(crate) fn add_inertia_vectors(
-    quantity: Quantity,
-    sums: &mut [W3],
-    masses: &[i128],
-    targets: &[V3],
-    x: &Places,
-)
+pub(crate) fn add_inertia_pulls(sums: &mut [W3], masses: &[i128], targets: &[V3], x: &Places)
     requires nodes { AreMovers masses.now targets.now x.now }
     requires each { length sums.old ≡ length x.now }
     requires few { length x.now ≤ 16384 }
     requires small { AreLight (2 ^ 118) sums.old }
-    ensures { sums.new ≡ with_parts quantity sums.old
+    ensures { sums.new ≡ with_parts sums.old
         (map (part_at masses.now targets.now x.now) (range_with_len 0 (length x.now))) }
 {
     for node in 0..x.len() {
-        add_pulls(sums, &[node_vector(quantity, masses, targets, x, node)]);
+        add_pulls(sums, &[node_pull(masses, targets, x, node)]);
     }
-}
-
-// The vector of a quantity at a node.
-fn node_vector(quantity: Quantity, masses: &[i128], targets: &[V3], x: &Places, node: u32) -> Pull
-    requires nodes { AreMovers masses.now targets.now x.now }
-    requires there { node < length x.now }
-    ensures { result ∷ [] ≡ pulls_of quantity (part_at masses.now targets.now x.now node) }
-{
-    match quantity {
-        Quantity::Pull => node_pull(masses, targets, x, node),
-        Quantity::Stiffness => node_diagonal(masses, node),
-    }
-}
-
-// What inertia adds to the diagonal at a node.
-fn node_diagonal(masses: &[i128], node: u32) -> Pull
-    requires there { node < length masses.now }
-    requires masses { All (IsFrom (pos 0) MOST_MASS) masses.now }
-    ensures { result ≡ as_pull
-        (node, diagonal_of (inertia_block (slice_index_or masses.now node (pos 0)))) }
-{
-    let block = inertia_block(mass_of(masses, node as usize));
-    pull_at(node, [block[0][0], block[1][1], block[2][2]])
 }
 
 // What inertia pulls with at a node.

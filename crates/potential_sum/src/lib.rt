@@ -1,11 +1,17 @@
-//! The potential that a frame lowers, and its gradient: sums of contributions of nodes, of tetrahedra and of pairs of
-//! close parts of the surface.
+//! The potential that a frame lowers, and its gradient: sums of contributions of nodes, of tetrahedra, of pairs of close
+//! parts of the surface, and of contacts.
 #![tactic(auto)]
 
 mod barriers;
+mod blocks;
 mod bodies;
+mod contacts;
+mod friction;
 mod inertia;
+mod laws;
+mod matrix;
 mod pulls;
 mod terms;
 
+pub use laws::the_matrix_is_symmetric;
 pub use terms::Terms;

@@ -1,33 +1,22 @@
-//! Sums of vectors at nodes, one for each node.
+//! Sums of pulls, one for each node.
 ghost use Rattle.std.specs.Prelude.{◌≡◌, ◌<◌, ◌≤◌, ◌^◌, ◌-◌, ◌+ℤ◌, IfOk, All, map, length, slice_index_or, false, flat_map};
 ghost use Rattle.std.specs.List.{range_with_len};
 ghost use Rattle.space3.specs.Vectors.{AtMost, Within};
 ghost use Rattle.space3.specs.Wide.{unbounded};
-ghost use Rattle.num_q.specs.Rounding.{cut_of};
-ghost use Rattle.vec_q.specs.Matrices.{M3};
-ghost use Rattle.vec_q.specs.Rows.{components, rows_of, vector_of};
-ghost use Rattle.potential_sum.specs.Contributions.{diagonal_of};
-ghost use Rattle.potential_sum.specs.declared.pulls.Quantity.TheVariants as quantities;
+ghost use Rattle.vec_q.specs.Rows.{vector_of};
 ghost use Rattle.potential_sum.specs.Calls.Sums.{AreLight, as_pull, nothing, numbers_of, wide_sum, with_pulls};
 
 use space3::W3;
 use std::alloc::{AllocError, Global};
 
-/// What is added up: what pulls at nodes, or what is added to the matrix's diagonal.
-#[derive(Clone, Copy)]
-pub(crate) enum Quantity {
-    Pull,
-    Stiffness,
-}
-
-/// A vector at a node.
+/// What pulls at a node.
 #[derive(Clone, Copy)]
 pub(crate) struct Pull {
     pub node: u32,
     pub force: W3,
 }
 
-// A vector at a node.
+// What pulls at a node.
 pub(crate) fn pull_at(node: u32, force: [i128; 3]) -> Pull
     ensures { result ≡ as_pull (node, vector_of force) }
 {
@@ -39,13 +28,6 @@ pub(crate) fn pull_at(node: u32, force: [i128; 3]) -> Pull
             z: force[2],
         },
     }
-}
-
-/// The diagonal of a matrix of three rows.
-pub(crate) fn diagonal_of(rows: [[i128; 3]; 3]) -> [i128; 3]
-    ensures { (m : M3) → rows ≡ rows_of m → result ≡ components (diagonal_of m) }
-{
-    [rows[0][0], rows[1][1], rows[2][2]]
 }
 
 /// Adds each of these pulls to the sum at its node.
@@ -82,60 +64,31 @@ fn sum(a: i128, b: i128) -> i128
     a + b
 }
 
-/// The sums as numbers, three for each node.
+/// The sums as numbers, three for each node, 0 for those that are fixed.
 pub(crate) fn node_numbers(
     alloc: Global,
-    quantity: Quantity,
     sums: &[W3],
     fixed: &[bool],
 ) -> Result<Vec<i128>, AllocError>
     requires each { length fixed.now ≡ length sums.now }
     ensures { IfOk result (λ made. made.items ≡
-        flat_map (λ node. numbers_of quantity (slice_index_or fixed.now node false)
+        flat_map (λ node. numbers_of (slice_index_or fixed.now node false)
         (slice_index_or sums.now node nothing)) (range_with_len 0 (length sums.now))) }
 {
     let mut made = Vec::with_capacity(alloc, sums.len().saturating_mul(3))?;
     for node in 0..sums.len() {
-        made.extend_from_slice(&numbers_of(quantity, fixed[node], sums[node]))?;
+        made.extend_from_slice(&numbers_of(fixed[node], sums[node]))?;
     }
     Ok(made)
 }
 
-// The three numbers of a node.
-fn numbers_of(quantity: Quantity, fixed: bool, sum: W3) -> [i128; 3]
-    ensures { result ≡ numbers_of quantity fixed sum }
-{
-    match quantity {
-        Quantity::Pull => slope_of(fixed, sum),
-        Quantity::Stiffness => entries_of(fixed, sum),
-    }
-}
-
-// The gradient's numbers of a node, 0 where it is fixed.
-fn slope_of(fixed: bool, sum: W3) -> [i128; 3]
-    ensures { result ≡ numbers_of quantities.Pull fixed sum }
+// The three numbers of a node, 0 where it is fixed.
+fn numbers_of(fixed: bool, sum: W3) -> [i128; 3]
+    ensures { result ≡ numbers_of fixed sum }
 {
     if fixed {
         [0, 0, 0]
     } else {
         [sum.x, sum.y, sum.z]
     }
-}
-
-// The diagonal's entries of a node, 1 where it is fixed.
-fn entries_of(fixed: bool, sum: W3) -> [i128; 3]
-    ensures { result ≡ numbers_of quantities.Stiffness fixed sum }
-{
-    if fixed {
-        [1, 1, 1]
-    } else {
-        [cut(sum.x), cut(sum.y), cut(sum.z)]
-    }
-}
-
-fn cut(entry: i128) -> i128
-    ensures { result ≡ cut_of 62 entry }
-{
-    let most = (1i128 << 62) - 1;
-    entry.clamp(-most, most)
 }

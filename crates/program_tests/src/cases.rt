@@ -54,17 +54,26 @@ fn a_mesh_with_decimals(rt: HostRuntime) -> Result<(), Fail> {
 
 #[test]
 fn words_of_no_command(rt: HostRuntime) -> Result<(), Fail> {
-    let lists: [&[&str]; 6] = [
+    let lists: [&[&str]; 10] = [
         &[],
         &["check", "0", "t.msh"],
         &["check", "10", "t.msh", "o"],
         &["check", "0", "t.msh", "o", "o"],
         &["run"],
         &["runs", "f.toml"],
+        &["gen"],
+        &["gen", "0"],
+        &["gen", "04"],
+        &["gen", "513"],
     ];
     for words in lists {
         let desk = obeyed(rt.alloc(), words, &[HEAD, NODES, TAIL], &[])?;
-        assert!(rt; desk.says(2, &["usage: ipc check DIGITS MESH OUT | run SCENE\n"])?);
+        assert!(rt;
+            desk.says(
+                2,
+                &["usage: ipc check DIGITS MESH OUT | run SCENE | gen N\n"]
+            )?
+        );
         assert!(rt; desk.has("o_0000.msh", None)?);
     }
     Ok(())

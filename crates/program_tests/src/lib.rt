@@ -14,3 +14,5 @@ mod faults;
 mod motions;
 #[cfg(test)]
 mod surfaces;
+#[cfg(test)]
+mod traces;

@@ -1,5 +1,5 @@
 -- The scene that the values at its keys give.
-use Rattle.std.proofs.Common.{◌≡◌, ℕ, ℤ, List, Ok, refl}
+use Rattle.std.proofs.Common.{◌≡◌, ℕ, ℤ, pos, List, Option, Ok, refl}
 use Rattle.std.specs.Prelude.{codes, map, unsigned_abs}
 use Rattle.dec_text.specs.declared.Snap.{Snap}
 use Rattle.dec_text.specs.declared.Snap.TheVariants.{Nearest}
@@ -8,14 +8,14 @@ use Rattle.space3.specs.declared.vectors.V3.{V3}
 use Rattle.space3.specs.Vectors.{origin}
 use Rattle.surface_mesh.specs.declared.materials.Material.{Material}
 use Rattle.scene_toml.specs.declared.keys.Section.TheVariants.{Top}
-use Rattle.scene_toml.specs.declared.keys.TheConstants.{NAME_LENGTHS, GRIDS, FRAME_COUNTS, BUDGETS, TOLERANCES, GRAVITIES, CONTACT_DISTANCES, STIFFNESSES, NO_RANGE}
+use Rattle.scene_toml.specs.declared.keys.TheConstants.{NAME_LENGTHS, GRIDS, FRAME_COUNTS, BUDGETS, TOLERANCES, GRAVITIES, CONTACT_DISTANCES, STIFFNESSES, FRICTIONS, SLIPS, NO_RANGE}
 use Rattle.scene_toml.specs.declared.parts.PartKeys.{PartKeys}
-use Rattle.scene_toml.specs.Calls.{integer_at, material_at, parts_at, snap_at, text_at, vector_at}
+use Rattle.scene_toml.specs.Calls.{integer_at, integer_or_at, material_at, optional_text_at, parts_at, snap_at, text_at, vector_at}
 use Rattle.scene_toml.specs.Keys.{key}
 use Rattle.scene_toml.specs.Parts.{with_base}
 use Rattle.scene_toml.specs.Scenes.{scene_in}
 
-pub scene_given : (ms : Members) (mesh out : List ℕ) (digits : ℤ) (snap : Snap) (frames budget tol : ℤ) (gravity : V3) (dhat kappa : ℤ) (base : Material) (parts : List PartKeys)
+pub scene_given : (ms : Members) (mesh out : List ℕ) (digits : ℤ) (snap : Snap) (frames budget tol : ℤ) (gravity : V3) (dhat kappa friction slip : ℤ) (trace : Option (List ℕ)) (base : Material) (parts : List PartKeys)
     → text_at Top (key (codes "mesh") NAME_LENGTHS) ms ≡ Ok mesh
     → text_at Top (key (codes "out") NAME_LENGTHS) ms ≡ Ok out
     → integer_at Top (key (codes "digits") GRIDS) ms ≡ Ok digits
@@ -26,6 +26,9 @@ pub scene_given : (ms : Members) (mesh out : List ℕ) (digits : ℤ) (snap : Sn
     → vector_at Top (key (codes "gravity") GRAVITIES) origin ms ≡ Ok gravity
     → integer_at Top (key (codes "dhat") CONTACT_DISTANCES) ms ≡ Ok dhat
     → integer_at Top (key (codes "kappa") STIFFNESSES) ms ≡ Ok kappa
+    → integer_or_at Top (key (codes "friction") FRICTIONS) (pos 0) ms ≡ Ok friction
+    → integer_or_at Top (key (codes "slip") SLIPS) (pos 1) ms ≡ Ok slip
+    → optional_text_at Top (key (codes "trace") NAME_LENGTHS) ms ≡ Ok trace
     → material_at ms ≡ Ok base
     → parts_at ms ≡ Ok parts
     → scene_in ms ≡ Ok (record {
@@ -36,7 +39,8 @@ pub scene_given : (ms : Members) (mesh out : List ℕ) (digits : ℤ) (snap : Sn
       frames = unsigned_abs frames;
       budget = unsigned_abs budget;
       tol = tol;
-      numbers = record { base = base; parts = map (with_base base) parts; kappa = kappa; dhat = dhat; gravity = gravity };
+      trace = trace;
+      numbers = record { base = base; parts = map (with_base base) parts; kappa = kappa; dhat = dhat; friction = friction; slip = slip; gravity = gravity };
     })
-scene_given ms mesh out digits snap frames budget tol gravity dhat kappa base parts mesh-is out-is digits-is snap-is frames-is budget-is tol-is gravity-is dhat-is kappa-is base-is parts-is =
-    rw (mesh-is, out-is, digits-is, snap-is, frames-is, budget-is, tol-is, gravity-is, dhat-is, kappa-is, base-is, parts-is) refl
+scene_given ms mesh out digits snap frames budget tol gravity dhat kappa friction slip trace base parts mesh-is out-is digits-is snap-is frames-is budget-is tol-is gravity-is dhat-is kappa-is friction-is slip-is trace-is base-is parts-is =
+    rw (mesh-is, out-is, digits-is, snap-is, frames-is, budget-is, tol-is, gravity-is, dhat-is, kappa-is, friction-is, slip-is, trace-is, base-is, parts-is) refl

@@ -15,20 +15,20 @@ use Rattle.space3.specs.Vectors.{AtMost, Within, origin}
 use Rattle.surface_mesh.specs.declared.materials.Material.{Material}
 use Rattle.whole_laws.specs.Ranges.{IsFrom}
 use Rattle.surface_mesh.specs.Materials.{IsMaterial}
-use Rattle.scene_toml.specs.declared.keys.TheConstants.{NAME_LENGTHS, GRIDS, FRAME_COUNTS, BUDGETS, TOLERANCES, GRAVITIES, CONTACT_DISTANCES, STIFFNESSES, DENSITIES, MODULI, VELOCITIES, NO_RANGE}
+use Rattle.scene_toml.specs.declared.keys.TheConstants.{NAME_LENGTHS, GRIDS, FRAME_COUNTS, BUDGETS, TOLERANCES, GRAVITIES, CONTACT_DISTANCES, STIFFNESSES, FRICTIONS, SLIPS, DENSITIES, MODULI, VELOCITIES, NO_RANGE}
 use Rattle.scene_toml.specs.declared.keys.Section.{Section}
 use Rattle.scene_toml.specs.declared.keys.Section.TheVariants as sections
 use Rattle.scene_toml.specs.declared.refusal.SceneErr.{SceneErr}
 use Rattle.scene_toml.specs.declared.refusal.ReadSceneErr.{ReadSceneErr}
 use Rattle.scene_toml.specs.declared.scene.Scene.{Scene}
 use Rattle.scene_toml.specs.Gives.{Gives}
-use Rattle.scene_toml.specs.Calls.{bool_at, integer_at, material_at, material_in, new_tag_at, optional_bool_at, optional_integer_at, optional_vector_at, parts_at, snap_at, text_at, vector_at}
+use Rattle.scene_toml.specs.Calls.{bool_at, integer_at, integer_or_at, material_at, material_in, new_tag_at, optional_bool_at, optional_integer_at, optional_text_at, optional_vector_at, parts_at, snap_at, text_at, vector_at}
 use Rattle.scene_toml.specs.declared.parts.PartKeys.{PartKeys}
 use Rattle.scene_toml.specs.Parts.{are_tables, count_of, not_tables, part, part_in, parts_from, parts_of, with_base}
 use Rattle.scene_toml.specs.Keys.{Key, key}
 use Rattle.scene_toml.specs.Readings.{material_of}
 use Rattle.scene_toml.specs.Tables.{table_of, first_unknown}
-use Rattle.scene_toml.specs.Values.{in_range, integer_of, optional, text_of, three_integers, components_of, vector_of}
+use Rattle.scene_toml.specs.Values.{in_range, integer_of, integer_or, optional, text_of, three_integers, components_of, vector_of}
 use Rattle.scene_toml.specs.Scenes.{IsName, IsScene, scene_in, scene_of_table, scene_of_text, unless_unknown}
 use Rattle.scene_toml.proofs.Steps.{and_then-ok}
 
@@ -56,6 +56,11 @@ integer_of-holds section key None n e = absurd cc
 
 integer_at-holds : (section : Section) (key : Key) (ms : Members) (n : ℤ) → integer_at section key ms ≡ Ok n → IsFrom key.least key.most n
 integer_at-holds section key ms n e = integer_of-holds section key (get_member key.name ms) n e
+
+integer_or-holds : (section : Section) (key : Key) (absent : ℤ) (value : Option Data) (n : ℤ) → IsFrom key.least key.most absent → integer_or section key absent value ≡ Ok n
+    → IsFrom key.least key.most n
+integer_or-holds section key absent (Some value) n h e = integer_of-holds section key (Some value) n e
+integer_or-holds section key absent None n h e = subst (IsFrom key.least key.most) (ok_same absent n e) h
 
 text_of-holds : (section : Section) (key : Key) (value : Option Data) (text : List ℕ) → text_of section key value ≡ Ok text → IsFrom key.least key.most (pos (length text))
 text_of-holds section key (Some (string s)) text e =
@@ -199,6 +204,12 @@ with_base-holds base part h k = record {
 is_name : (text : List ℕ) → IsFrom (pos 1) (pos 200) (pos (length text)) → IsName text
 is_name text h = record { not_empty = omega (arith, ints, h.low); short = omega (arith, ints, h.high) }
 
+optional_name : (value : Option Data) (trace : Option (List ℕ)) → optional (text_of sections.Top (key (codes "trace") NAME_LENGTHS)) value ≡ Ok trace → IfSome trace IsName
+optional_name (Some d) trace e =
+    and_then-ok (text_of sections.Top (key (codes "trace") NAME_LENGTHS) (Some d)) (λ text. Ok (Some text)) trace e
+    (λ text text-is e. subst (λ (t : Option (List ℕ)). IfSome t IsName) (ok_same (Some text) trace e) (is_name text (text_of-holds sections.Top (key (codes "trace") NAME_LENGTHS) (Some d) text text-is)))
+optional_name None trace e = subst (λ (t : Option (List ℕ)). IfSome t IsName) (ok_same None trace e) tt
+
 count_from : (least most : ℕ) (n : ℤ) → IsFrom (pos least) (pos most) n → (least ≤ unsigned_abs n) × (unsigned_abs n ≤ most)
 count_from least most n h = (omega (arith, ints, h.low, h.high), omega (arith, ints, h.low, h.high))
 
@@ -214,6 +225,9 @@ scene_in-holds ms scene e =
     and_then-ok (vector_at sections.Top (key (codes "gravity") GRAVITIES) origin ms) _ scene e (λ gravity gravity-is e.
     and_then-ok (integer_at sections.Top (key (codes "dhat") CONTACT_DISTANCES) ms) _ scene e (λ dhat dhat-is e.
     and_then-ok (integer_at sections.Top (key (codes "kappa") STIFFNESSES) ms) _ scene e (λ kappa kappa-is e.
+    and_then-ok (integer_or_at sections.Top (key (codes "friction") FRICTIONS) (pos 0) ms) _ scene e (λ friction friction-is e.
+    and_then-ok (integer_or_at sections.Top (key (codes "slip") SLIPS) (pos 1) ms) _ scene e (λ slip slip-is e.
+    and_then-ok (optional_text_at sections.Top (key (codes "trace") NAME_LENGTHS) ms) _ scene e (λ trace trace-is e.
     and_then-ok (material_at ms) _ scene e (λ base base-is e.
     and_then-ok (parts_at ms) _ scene e (λ parts parts-is e.
     let gravity_from = vector_of-holds sections.Top (key (codes "gravity") GRAVITIES) origin (get_member (codes "gravity") ms) gravity (at_rest _ _ (omega arith) (omega arith)) gravity-is in
@@ -228,15 +242,18 @@ scene_in-holds ms scene e =
       some_budget = budget_from.0;
       budget = budget_from.1;
       tol = integer_at-holds sections.Top (key (codes "tol") TOLERANCES) ms tol tol-is;
+      trace = optional_name (get_member (codes "trace") ms) trace trace-is;
       numbers = record {
         base = base_in;
         few_parts = omega (arith, few, length-map parts (with_base base));
         parts = All-map (λ part. IsMaterial part.1) (with_base base) parts (All-weaker IsPart (λ part. IsMaterial (with_base base part).1) (λ part h. with_base-holds base part base_in h) parts parts_in);
         kappa = integer_at-holds sections.Top (key (codes "kappa") STIFFNESSES) ms kappa kappa-is;
         dhat = integer_at-holds sections.Top (key (codes "dhat") CONTACT_DISTANCES) ms dhat dhat-is;
+        friction = integer_or-holds sections.Top (key (codes "friction") FRICTIONS) (pos 0) (get_member (codes "friction") ms) friction (record { low = omega arith; high = omega arith }) friction-is;
+        slip = integer_or-holds sections.Top (key (codes "slip") SLIPS) (pos 1) (get_member (codes "slip") ms) slip (record { low = omega arith; high = omega arith }) slip-is;
         gravity = sizes_of (2 ^ 20) gravity gravity_from;
       };
-    })))))))))))))
+    }))))))))))))))))
 
 scene_of_members-holds : (unknown : Option (List ℕ)) (ms : Members) (scene : Scene) → unless_unknown unknown (scene_in ms) ≡ Ok scene → IsScene scene
 scene_of_members-holds (Some key) ms scene e = absurd cc

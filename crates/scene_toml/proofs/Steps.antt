@@ -21,3 +21,8 @@ gives_failure (Err f) e step whole is fails along = rw is (fails_with e step who
 pub and_then-ok : {T U P : Type 0} (step : Result T SceneErr) (f : T → Result U SceneErr) (y : U) → and_then step f ≡ Ok y → ((x : T) → step ≡ Ok x → f x ≡ Ok y → P) → P
 and_then-ok (Ok x) f y e then = then x refl e
 and_then-ok (Err fault) f y e then = absurd cc
+
+-- where memory was wanting, nothing is owed
+pub gives_memory : {Y : Type 0} (r : Result Y ReadSceneErr) (whole : Result Y SceneErr) → IsErrAnd r (λ f. f ≡ Memory) → Gives r whole
+gives_memory (Ok y) whole is = absurd is
+gives_memory (Err f) whole is = rw is tt

@@ -12,11 +12,15 @@ use Rattle.scene_toml.specs.Keys.{Key}
 use Rattle.scene_toml.specs.Parts.{new_tag_of, part, parts_of}
 use Rattle.scene_toml.specs.Reading.{read_keys}
 use Rattle.scene_toml.specs.Readings.{material, material_keys, material_of, no_material}
-use Rattle.scene_toml.specs.Values.{bool_of, integer_of, optional, snap_of, text_of, vector_of}
+use Rattle.scene_toml.specs.Values.{bool_of, integer_of, integer_or, optional, snap_of, text_of, vector_of}
 
 -- the integer at a key
 abbrev pub integer_at : Section → Key → Members → Result ℤ SceneErr
 integer_at section key members = integer_of section key (get_member key.name members)
+
+-- the integer at a key that may be absent for another
+abbrev pub integer_or_at : Section → Key → ℤ → Members → Result ℤ SceneErr
+integer_or_at section key absent members = integer_or section key absent (get_member key.name members)
 
 -- the truth value at a key
 abbrev pub bool_at : Section → Key → Bool → Members → Result Bool SceneErr
@@ -44,6 +48,9 @@ material_at members = material_of (get_member material.name members)
 -- what stands at a key that may be absent
 abbrev pub optional_integer_at : Section → Key → Members → Result (Option ℤ) SceneErr
 optional_integer_at section key members = optional (integer_of section key) (get_member key.name members)
+
+abbrev pub optional_text_at : Section → Key → Members → Result (Option (List ℕ)) SceneErr
+optional_text_at section key members = optional (text_of section key) (get_member key.name members)
 
 abbrev pub optional_bool_at : Section → Key → Members → Result (Option Bool) SceneErr
 optional_bool_at section key members = optional (bool_of section key false) (get_member key.name members)

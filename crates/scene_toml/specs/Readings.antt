@@ -11,7 +11,7 @@ use Rattle.surface_mesh.specs.declared.materials.Numbers.{Numbers}
 use Rattle.scene_toml.specs.declared.keys.Range.{Range}
 use Rattle.scene_toml.specs.declared.keys.Section.{Section}
 use Rattle.scene_toml.specs.declared.keys.Section.TheVariants as sections
-use Rattle.scene_toml.specs.declared.keys.TheConstants.{NAME_LENGTHS, GRIDS, FRAME_COUNTS, BUDGETS, TOLERANCES, GRAVITIES, CONTACT_DISTANCES, STIFFNESSES, DENSITIES, MODULI, VELOCITIES, NO_RANGE}
+use Rattle.scene_toml.specs.declared.keys.TheConstants.{NAME_LENGTHS, GRIDS, FRAME_COUNTS, BUDGETS, TOLERANCES, GRAVITIES, CONTACT_DISTANCES, STIFFNESSES, FRICTIONS, SLIPS, DENSITIES, MODULI, VELOCITIES, NO_RANGE}
 use Rattle.scene_toml.specs.declared.refusal.SceneErr.{SceneErr}
 use Rattle.scene_toml.specs.declared.refusal.SceneErr.TheVariants.{Missing, WrongType}
 use Rattle.scene_toml.specs.declared.scene.Scene.{Scene}
@@ -19,15 +19,25 @@ use Rattle.scene_toml.specs.Keys.{Key, key, printed}
 use Rattle.scene_toml.specs.Parts.{part, part_keys, parts_of, with_base}
 use Rattle.scene_toml.specs.Reading.{Reading, read_keys}
 use Rattle.scene_toml.specs.declared.parts.PartKeys.{PartKeys}
-use Rattle.scene_toml.specs.Values.{bool_of, integer_of, snap_of, text_of, vector_of}
+use Rattle.scene_toml.specs.Values.{bool_of, integer_of, integer_or, optional, snap_of, text_of, vector_of}
 
 abbrev pub integer_key : {S : Type 0} → Section → List ℕ → Range → (ℤ → S → S) → Reading S
 integer_key section name range put =
     record { Value = ℤ; key = key name range; read = integer_of section (key name range); put = put }
 
+-- an integer that may be absent
+abbrev pub optional_integer_key : {S : Type 0} → Section → List ℕ → Range → ℤ → (ℤ → S → S) → Reading S
+optional_integer_key section name range absent put =
+    record { Value = ℤ; key = key name range; read = integer_or section (key name range) absent; put = put }
+
 abbrev pub text_key : {S : Type 0} → Section → List ℕ → Range → (List ℕ → S → S) → Reading S
 text_key section name range put =
     record { Value = List ℕ; key = key name range; read = text_of section (key name range); put = put }
+
+-- a text that may be absent
+abbrev pub optional_text_key : {S : Type 0} → Section → List ℕ → Range → (Option (List ℕ) → S → S) → Reading S
+optional_text_key section name range put =
+    record { Value = Option (List ℕ); key = key name range; read = optional (text_of section (key name range)); put = put }
 
 -- a vector that may be absent
 abbrev pub vector_key : {S : Type 0} → Section → List ℕ → Range → V3 → (V3 → S → S) → Reading S
@@ -79,6 +89,9 @@ scene_keys =
     ∷ vector_key sections.Top (codes "gravity") GRAVITIES origin (λ v s. record s { numbers = record s.numbers { gravity = v } })
     ∷ integer_key sections.Top (codes "dhat") CONTACT_DISTANCES (λ n s. record s { numbers = record s.numbers { dhat = n } })
     ∷ integer_key sections.Top (codes "kappa") STIFFNESSES (λ n s. record s { numbers = record s.numbers { kappa = n } })
+    ∷ optional_integer_key sections.Top (codes "friction") FRICTIONS (pos 0) (λ n s. record s { numbers = record s.numbers { friction = n } })
+    ∷ optional_integer_key sections.Top (codes "slip") SLIPS (pos 1) (λ n s. record s { numbers = record s.numbers { slip = n } })
+    ∷ optional_text_key sections.Top (codes "trace") NAME_LENGTHS (λ text s. record s { trace = text })
     ∷ record {
       Value = Material;
       key = material;
@@ -95,7 +108,7 @@ scene_keys =
 
 -- a scene of which nothing is read yet
 abbrev pub no_numbers : Numbers
-no_numbers = record { base = no_material; parts = []; kappa = pos 0; dhat = pos 0; gravity = origin }
+no_numbers = record { base = no_material; parts = []; kappa = pos 0; dhat = pos 0; friction = pos 0; slip = pos 0; gravity = origin }
 
 abbrev pub no_scene : Scene
 no_scene = record {
@@ -106,6 +119,7 @@ no_scene = record {
   frames = 0;
   budget = 0;
   tol = pos 0;
+  trace = None;
   numbers = no_numbers;
 }
 

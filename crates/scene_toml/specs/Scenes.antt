@@ -1,5 +1,5 @@
 -- The scene that a text means, or its first fault.
-use Rattle.std.specs.Prelude.{List, length, ℕ, ◌≤◌, pos, Option, Some, None, Result, Err}
+use Rattle.std.specs.Prelude.{List, length, ℕ, ◌≤◌, pos, IfSome, Option, Some, None, Result, Err}
 use Rattle.toml.specs.Data.{Members}
 use Rattle.dec_text.specs.declared.TheConstants.{FINEST_GRID}
 use Rattle.whole_laws.specs.Ranges.{IsFrom}
@@ -46,4 +46,5 @@ pub record IsScene (scene : Scene) : Type 0 where
   pub some_budget : 1 ≤ scene.budget
   pub budget : scene.budget ≤ BUDGET_LIMIT
   pub tol : IsFrom (pos 0) TOL_LIMIT scene.tol
+  pub trace : IfSome scene.trace IsName
   pub numbers : AreNumbers scene.numbers

@@ -26,6 +26,11 @@ integer_of section key (Some (integer n)) = in_range section key n
 integer_of section key (Some _) = Err (WrongType (printed section key.name))
 integer_of section key None = Err (Missing (printed section key.name))
 
+-- an integer in the key's range, or what stands for one that is absent
+abbrev pub integer_or : Section → Key → ℤ → Option Data → Result ℤ SceneErr
+integer_or section key absent (Some value) = integer_of section key (Some value)
+integer_or section key absent None = Ok absent
+
 -- true or false, or what stands for one that is absent
 abbrev pub bool_of : Section → Key → Bool → Option Data → Result Bool SceneErr
 bool_of section key absent (Some (boolean b)) = Ok b

@@ -12,8 +12,8 @@ use space3::NUMBER_LIMIT;
 use std::alloc::{AllocError, Global};
 use std::marker::Model;
 use surface_mesh::{
-    FASTEST, LEAST_DHAT, MOST_DENSITY, MOST_DHAT, MOST_GRAVITY, MOST_KAPPA, MOST_MODULUS,
-    MOST_PARTS,
+    FASTEST, LEAST_DHAT, MOST_DENSITY, MOST_DHAT, MOST_FRICTION, MOST_GRAVITY, MOST_KAPPA,
+    MOST_MODULUS, MOST_PARTS, MOST_SLIP,
 };
 
 /// The longest name of a file in bytes: with a frame's number and ending it stays within what file systems take, 255.
@@ -48,6 +48,10 @@ pub(crate) const GRAVITIES: Range = Range(-(MOST_GRAVITY as i64), MOST_GRAVITY a
 pub(crate) const CONTACT_DISTANCES: Range = Range(LEAST_DHAT, MOST_DHAT);
 
 pub(crate) const STIFFNESSES: Range = Range(1, MOST_KAPPA);
+
+pub(crate) const FRICTIONS: Range = Range(0, MOST_FRICTION);
+
+pub(crate) const SLIPS: Range = Range(1, MOST_SLIP);
 
 pub(crate) const DENSITIES: Range = Range(1, MOST_DENSITY);
 
@@ -103,6 +107,12 @@ pub(crate) const DHAT: Key = Key("dhat", CONTACT_DISTANCES);
 
 pub(crate) const KAPPA: Key = Key("kappa", STIFFNESSES);
 
+pub(crate) const FRICTION: Key = Key("friction", FRICTIONS);
+
+pub(crate) const SLIP: Key = Key("slip", SLIPS);
+
+pub(crate) const TRACE: Key = Key("trace", NAME_LENGTHS);
+
 pub(crate) const MATERIAL: Key = Key("material", NO_RANGE);
 
 pub(crate) const DENSITY: Key = Key("density", DENSITIES);
@@ -119,8 +129,9 @@ pub(crate) const PART: Key = Key("part", PART_COUNTS);
 
 pub(crate) const TAG: Key = Key("tag", TAGS);
 
-const TOP_KEYS: [Key; 12] = [
-    MESH, OUT, DIGITS, SNAP, FRAMES, BUDGET, TOL, GRAVITY, DHAT, KAPPA, MATERIAL, PART,
+const TOP_KEYS: [Key; 15] = [
+    MESH, OUT, DIGITS, SNAP, FRAMES, BUDGET, TOL, GRAVITY, DHAT, KAPPA, FRICTION, SLIP, TRACE,
+    MATERIAL, PART,
 ];
 
 const MATERIAL_KEYS: [Key; 5] = [DENSITY, MU, LAMBDA, FIXED, VELOCITY];

@@ -7,15 +7,16 @@ ghost use Rattle.scene_toml.specs.Calls.{material_at, material_in};
 ghost use Rattle.scene_toml.specs.Scenes.{IsScene, scene_in, scene_of_members, scene_of_text};
 
 use crate::keys::{
-    BUDGET, DENSITY, DHAT, DIGITS, FIXED, FRAMES, GRAVITY, KAPPA, LAMBDA, MATERIAL, MESH, MU, OUT,
-    SNAP, Section, TOL, VELOCITY,
+    BUDGET, DENSITY, DHAT, DIGITS, FIXED, FRAMES, FRICTION, GRAVITY, KAPPA, LAMBDA, MATERIAL, MESH,
+    MU, OUT, SLIP, SNAP, Section, TOL, TRACE, VELOCITY,
 };
 use crate::parts::{PartKeys, parts_at};
 use crate::refusal::{ReadSceneErr, SceneErr};
 use crate::tables::{first_unknown, value_at};
 use crate::texts::NameText;
 use crate::values::{
-    ORIGIN, bool_at, integer_at, missing, snap_at, text_at, vector_at, wrong_type,
+    ORIGIN, bool_at, integer_at, integer_or_at, missing, optional_text_at, snap_at, text_at,
+    vector_at, wrong_type,
 };
 use dec_text::Snap;
 use std::alloc::{AllocError, Global};
@@ -39,6 +40,8 @@ pub struct Scene {
     pub budget: u32,
     /// A frame has converged where no component of the gradient is above this in absolute value, 0 to 2^62.
     pub tol: i64,
+    /// What the names of the traces' files begin with, of 1 to 200 bytes, where traces are wanted.
+    pub trace: Option<NameText>,
     /// The numbers that the bodies and their contacts get.
     pub numbers: Numbers,
 }
@@ -112,6 +115,9 @@ fn scene_in(alloc: Global, table: &Table) -> Result<Scene, ReadSceneErr>
     let gravity = vector_at(alloc, Section::Top, &GRAVITY, ORIGIN, table)?;
     let dhat = integer_at(alloc, Section::Top, &DHAT, table)?;
     let kappa = integer_at(alloc, Section::Top, &KAPPA, table)?;
+    let friction = integer_or_at(alloc, Section::Top, &FRICTION, 0, table)?;
+    let slip = integer_or_at(alloc, Section::Top, &SLIP, 1, table)?;
+    let trace = optional_text_at(alloc, Section::Top, &TRACE, table)?;
     let base = material_at(alloc, table)?;
     let given = parts_at(alloc, table)?;
     let parts = part_list(alloc, base, given.items())?;
@@ -123,11 +129,14 @@ fn scene_in(alloc: Global, table: &Table) -> Result<Scene, ReadSceneErr>
         frames: frames as u32,
         budget: budget as u32,
         tol,
+        trace,
         numbers: Numbers {
             base,
             parts,
             kappa,
             dhat,
+            friction,
+            slip,
             gravity,
         },
     })

@@ -6,7 +6,7 @@ ghost use Rattle.scene_toml.specs.declared.refusal.ReadSceneErr.TheVariants.{Sce
 ghost use Rattle.scene_toml.specs.declared.refusal.SceneErr.TheVariants.{Missing, OutOfRange, WrongType};
 ghost use Rattle.scene_toml.specs.Gives.{Gives};
 ghost use Rattle.scene_toml.specs.Keys.{printed};
-ghost use Rattle.scene_toml.specs.Calls.{bool_at, integer_at, optional_bool_at, optional_integer_at, optional_vector_at, snap_at, text_at, vector_at};
+ghost use Rattle.scene_toml.specs.Calls.{bool_at, integer_at, integer_or_at, optional_bool_at, optional_integer_at, optional_text_at, optional_vector_at, snap_at, text_at, vector_at};
 ghost use Rattle.scene_toml.specs.Values.{in_range, components_of, snap_named, three_integers};
 
 use crate::keys::{Key, Section};
@@ -90,6 +90,24 @@ pub(crate) fn integer_at(
         return Err(wrong_type(alloc, section, key)?);
     };
     in_range(alloc, section, key, number)
+}
+
+/// The integer at a key, which has to lie in the key's range, or what stands for one that is absent.
+pub(crate) fn integer_or_at(
+    alloc: Global,
+    section: Section,
+    key: &Key,
+    absent: i64,
+    table: &Table,
+) -> Result<i64, ReadSceneErr>
+    requires { IsFrom key.now.least key.now.most absent }
+    ensures reading { Gives result (integer_or_at section key.now absent (table_view table.now)) }
+    ensures range { IfOk result (IsFrom key.now.least key.now.most) }
+{
+    match value_at(table, key.name()) {
+        Some(_) => integer_at(alloc, section, key, table),
+        None => Ok(absent),
+    }
 }
 
 /// The truth value at a key, or what stands for one that is absent.
@@ -225,6 +243,21 @@ pub(crate) fn optional_integer_at(
 {
     match value_at(table, key.name()) {
         Some(_) => Ok(Some(integer_at(alloc, section, key, table)?)),
+        None => Ok(None),
+    }
+}
+
+/// The text at a key that may be absent.
+pub(crate) fn optional_text_at(
+    alloc: Global,
+    section: Section,
+    key: &Key,
+    table: &Table,
+) -> Result<Option<NameText>, ReadSceneErr>
+    ensures { Gives result (optional_text_at section key.now (table_view table.now)) }
+{
+    match value_at(table, key.name()) {
+        Some(_) => Ok(Some(text_at(alloc, section, key, table)?)),
         None => Ok(None),
     }
 }

@@ -5,3 +5,6 @@ pub mod Endings
 pub mod SearchSteps
 pub mod Shifts
 pub mod OneDirection
+pub mod Decided
+pub mod Still
+pub mod NonZero

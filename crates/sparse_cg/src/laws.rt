@@ -1,19 +1,29 @@
-//! There is one Newton direction at most; and directions of two nodes, whose numbers were computed
-//! apart. A law is a function that does nothing, whose contract is the law.
-ghost use Rattle.std.specs.Prelude.{◌≡◌, ℕ, ℤ, pos, neg_ℤ, List, [], ◌∷◌};
+//! There is one Newton direction at most, and it isn't rounded from 0; and directions of two nodes,
+//! whose numbers were computed apart. A law is a function that does nothing, whose contract is the
+//! law.
+ghost use Rattle.std.specs.Prelude.{◌≡◌, ℕ, ◌*◌, ℤ, pos, neg_ℤ, List, [], ◌∷◌, length, All};
 ghost use Rattle.space3.specs.declared.vectors.V3.{V3};
 ghost use Rattle.space3.specs.Vectors.{vector};
 ghost use Rattle.block_rows.specs.Example.{two_nodes};
 ghost use Rattle.block_rows.specs.Tables.{Table};
-ghost use Rattle.sparse_cg.specs.Directions.{IsNewton};
+ghost use Rattle.sparse_cg.specs.Directions.{IsEndOf, IsNewton};
 ghost use Rattle.sparse_cg.specs.Example.{slopes_of_two, system_of_two};
 ghost use Rattle.sparse_cg.specs.Jacobi.{jacobi};
+ghost use Rattle.sparse_cg.specs.Systems.{IsShift, system_of};
 ghost use Rattle.sparse_cg.specs.Turns.{start, turned};
 
 /// Two Newton directions of a matrix and a gradient are the same.
 pub fn one_newton()
     ensures { (nodes : ℕ) (table : Table) (slopes : List ℤ) (d e : List V3) →
         IsNewton nodes table slopes d → IsNewton nodes table slopes e → d ≡ e }
+{}
+
+/// The solution that a Newton direction is rounded from isn't 0 in all of its numbers.
+pub fn a_solution_is_not_zero()
+    ensures { (nodes : ℕ) (table : Table) (slopes : List ℤ) (shift : ℕ) (direction : List V3) →
+        length slopes ≡ 3 * nodes → IsShift slopes shift →
+        (end : IsEndOf (system_of nodes table slopes shift) direction) →
+        ¬ All (λ number. number ≡ pos 0) end.last.x }
 {}
 
 /// The first turn, Newton's direction after the second one, and Jacobi's, for two nodes.

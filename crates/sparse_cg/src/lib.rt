@@ -13,6 +13,6 @@ mod state;
 mod turn;
 mod work;
 
-pub use laws::{directions_of_two_nodes, one_newton};
+pub use laws::{a_solution_is_not_zero, directions_of_two_nodes, one_newton};
 pub use solve::{jacobi, newton};
 pub use work::Work;

@@ -7,7 +7,7 @@ use Rattle.space3.specs.declared.lists.Tet.{Tet}
 use Rattle.space3.specs.Vectors.{Within}
 use Rattle.surface_mesh.specs.declared.materials.Material.{Material}
 use Rattle.surface_mesh.specs.declared.materials.Numbers.{Numbers}
-use Rattle.surface_mesh.specs.declared.ranges.TheConstants.{FASTEST, LEAST_DHAT, MOST_DENSITY, MOST_DHAT, MOST_GRAVITY, MOST_KAPPA, MOST_MODULUS, MOST_PARTS}
+use Rattle.surface_mesh.specs.declared.ranges.TheConstants.{FASTEST, LEAST_DHAT, MOST_DENSITY, MOST_DHAT, MOST_FRICTION, MOST_GRAVITY, MOST_KAPPA, MOST_MODULUS, MOST_PARTS, MOST_SLIP}
 
 -- the first tag of a tetrahedron, or 0 where it has none
 abbrev pub physical_tag : Tet → ℤ
@@ -32,4 +32,6 @@ pub record AreNumbers (numbers : Numbers) : Type 0 where
   pub parts : All (λ part. IsMaterial part.1) numbers.parts
   pub kappa : IsFrom (pos 1) MOST_KAPPA numbers.kappa
   pub dhat : IsFrom LEAST_DHAT MOST_DHAT numbers.dhat
+  pub friction : IsFrom (pos 0) MOST_FRICTION numbers.friction
+  pub slip : IsFrom (pos 1) MOST_SLIP numbers.slip
   pub gravity : Within MOST_GRAVITY numbers.gravity

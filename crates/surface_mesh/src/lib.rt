@@ -14,8 +14,8 @@ pub use edges::has_edges_within;
 pub use lists::{DirList, FixedList, MassList, RestList, VelocityList};
 pub use materials::{Material, Numbers, PartList};
 pub use ranges::{
-    FARTHEST_BEFORE, FASTEST, LEAST_DHAT, MOST_DENSITY, MOST_DHAT, MOST_GRAVITY, MOST_KAPPA,
-    MOST_MODULUS, MOST_PARTS,
+    FARTHEST_BEFORE, FASTEST, LEAST_DHAT, MOST_DENSITY, MOST_DHAT, MOST_FRICTION, MOST_GRAVITY,
+    MOST_KAPPA, MOST_MODULUS, MOST_PARTS, MOST_SLIP,
 };
 pub use setup::Setup;
 pub use sturdy::{LEAST_REST, LONGEST_REST, MOST_MASS};

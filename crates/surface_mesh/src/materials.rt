@@ -63,6 +63,10 @@ pub struct Numbers {
     pub kappa: i64,
     /// The distance from which contact acts, 2 to 1024 grid units.
     pub dhat: i64,
+    /// The coefficient of friction, 0 to 1024, in 256ths.
+    pub friction: i64,
+    /// The slide below which friction is smooth, 1 to 1024 grid units per frame.
+    pub slip: i64,
     /// Gravity in 1/256 grid unit per frame and frame, each component at most 2^20 in absolute value.
     pub gravity: V3,
 }

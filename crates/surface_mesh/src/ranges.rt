@@ -23,6 +23,12 @@ pub const LEAST_DHAT: i64 = 2;
 /// The greatest.
 pub const MOST_DHAT: i64 = 1024;
 
+/// The greatest coefficient of friction, in 256ths. The least is 0.
+pub const MOST_FRICTION: i64 = 1024;
+
+/// The greatest slip, in grid units per frame: the slide below which friction is smooth. The least is 1.
+pub const MOST_SLIP: i64 = 1024;
+
 /// The greatest component of gravity, in 1/256 grid unit per frame and frame.
 pub const MOST_GRAVITY: u32 = 1 << 20;
 

@@ -100,6 +100,26 @@ fn the_first_fault_is_named(rt: HostRuntime) -> Result<(), Fail> {
             "[material]\nfoo = 1",
             "unknown key material.foo",
         ),
+        (
+            "kappa = 1\n[material]",
+            "slip = 0\nkappa = 1\nfriction = 2000\n[material]",
+            "out of range friction 2000",
+        ),
+        (
+            "kappa = 1\n[material]\ndensity = 1",
+            "slip = [1]\nkappa = 1\n[material]\ndensity = 0",
+            "wrong type slip",
+        ),
+        (
+            "kappa = 1",
+            "kappa = 1\ntrace = \"\"",
+            "out of range trace 0",
+        ),
+        (
+            "kappa = 1\n[material]\ndensity = 1",
+            "kappa = 1\ntrace = 1\n[material]\ndensity = 0",
+            "wrong type trace",
+        ),
         ("mu = 0\nlambda = 0", "", "missing key material.mu"),
         ("lambda = 0", "lambda = 0.0", "wrong type material.lambda"),
         (
@@ -210,6 +230,8 @@ fn each_integer_has_its_range(rt: HostRuntime) -> Result<(), Fail> {
         ("tol", "tol = 0\n", [-1, 0, 1 << 62, (1 << 62) + 1]),
         ("dhat", "dhat = 2\n", [1, 2, 1024, 1025]),
         ("kappa", "kappa = 1\n", [0, 1, 1 << 40, (1 << 40) + 1]),
+        ("kappa = 1\nfriction", "kappa = 1\n", [-1, 0, 1024, 1025]),
+        ("kappa = 1\nslip", "kappa = 1\n", [0, 1, 1024, 1025]),
         ("density", "density = 1\n", [0, 1, 1024, 1025]),
         ("mu", "mu = 0\n", [-1, 0, 1 << 30, (1 << 30) + 1]),
         ("lambda", "lambda = 0\n", [-1, 0, 1 << 30, (1 << 30) + 1]),

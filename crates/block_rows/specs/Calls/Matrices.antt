@@ -2,6 +2,7 @@
 use Rattle.std.specs.Prelude.{ℕ, pos, ◌≤◌, ◌*◌, ◌^◌, Bool, false, List, [], ◌∷◌, length, map, All, slice_index_or, if◌then◌else◌}
 use Rattle.std.specs.List.{range_with_len}
 use Rattle.vec_q.specs.Matrices.{unit_times}
+use Rattle.block_rows.specs.declared.sums.TheConstants.{MOST_ADDED}
 use Rattle.block_rows.specs.Calls.Entries.{free_row, IsRow, IsSmall}
 use Rattle.block_rows.specs.Stored.{Entry, entry}
 
@@ -13,7 +14,7 @@ pub record AreRows (rows : List (List Entry)) : Type 0 where
 -- rows of a table to which so many blocks were added
 pub record AreSums (rows : List (List Entry)) (added : ℕ) : Type 0 where
   pub square : AreRows rows
-  pub count : added ≤ 2 ^ 34
+  pub count : added ≤ MOST_ADDED
   pub small : All (IsSmall (added * 2 ^ 86)) rows
 
 -- what stays of a node's row: that of the unit matrix, or what stays of a free node's

@@ -1,5 +1,5 @@
 -- Parts of the surface between which there may be a barrier.
-use Rattle.std.specs.Prelude.{◌≡◌, ℕ, ◌<◌, ◌⊎◌, List, [], ◌∷◌, ◌++◌, length, map, take, drop, slice_index}
+use Rattle.std.specs.Prelude.{◌≡◌, ℕ, ◌<◌, ◌⊎◌, List, ◌++◌, length, map, take, drop, slice_index}
 use Rattle.space3.specs.declared.vectors.V3.{V3}
 use Rattle.space3.specs.Mesh.{HasNodes, place_of}
 use Rattle.safe_motion.specs.Safety.{PartPair}
@@ -13,7 +13,7 @@ use Rattle.barrier_term.specs.Barrier.{barrier_energy}
 use Rattle.barrier_term.specs.Blocks.{barrier_block}
 use Rattle.barrier_term.specs.Gradients.{barrier_gradient}
 use Rattle.potential_sum.specs.declared.barriers.TwoParts.{TwoParts}
-use Rattle.potential_sum.specs.Contributions.{Contribution, barrier_contribution, diagonal_of}
+use Rattle.potential_sum.specs.Contributions.{Contribution, barrier_contribution}
 
 -- one node and three, or two and two
 abbrev pub AreFour : PartPair → Type 0
@@ -49,5 +49,5 @@ barrier_of numbers nodes split points near = record {
   nodes = nodes;
   energy = barrier_energy numbers.kappa numbers.dhat near;
   pulls = barrier_gradient numbers.kappa numbers.dhat near split points;
-  diagonals = map (λ (i : ℕ). diagonal_of (barrier_block numbers.kappa numbers.dhat near split points i i)) (0 ∷ 1 ∷ 2 ∷ 3 ∷ []);
+  blocks = barrier_block numbers.kappa numbers.dhat near split points;
 }

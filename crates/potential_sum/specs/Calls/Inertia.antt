@@ -7,7 +7,7 @@ use Rattle.space3.specs.Mesh.{place_of}
 use Rattle.surface_mesh.specs.declared.sturdy.TheConstants.{MOST_MASS}
 use Rattle.inertia_term.specs.declared.target.TheConstants.{FARTHEST_TARGET}
 use Rattle.inertia_term.specs.Inertia.{inertia_block, inertia_energy, inertia_gradient}
-use Rattle.potential_sum.specs.Contributions.{Contribution, diagonal_of}
+use Rattle.potential_sum.specs.Contributions.{Contribution}
 
 -- as many masses and targets as places, in their ranges
 pub record AreMovers (masses : List ℤ) (targets places : List V3) : Type 0 where
@@ -29,5 +29,5 @@ part_at masses targets places node = record {
   nodes = node ∷ [];
   energy = energy_at masses targets places node;
   pulls = pull_of masses targets places node ∷ [];
-  diagonals = diagonal_of (inertia_block (slice_index_or masses node (pos 0))) ∷ [];
+  blocks = λ i j. inertia_block (slice_index_or masses node (pos 0));
 }

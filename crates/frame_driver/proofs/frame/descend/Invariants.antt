@@ -1,10 +1,11 @@
-use Rattle.std.proofs.Common.{◌≡◌}
+use Rattle.std.proofs.Common.{◌≡◌, length}
 use Rattle.potential_sum.specs.Potential.{potential}
 use Rattle.frame_driver.specs.Calls.Descents.{HasCome}
 use Rattle.frame_driver.proofs.frame.descend.Given as goal
 
 abbrev pub invariant-loop-taken : goal.invariant-loop-taken
 invariant-loop-taken l = record {
-  come : HasCome l.setup l.tol l.terms.frame l.now l.x l.taken;
+  come : HasCome l.setup l.tol l.terms.frame l.keep l.now l.x l.notes.items l.taken;
   upper : l.upper ≡ potential l.setup l.terms.frame l.x;
+  room : length l.work ≡ length l.initial.work;
 }

@@ -15,18 +15,18 @@ tells slopes gradient seen tol b e f h = subst (λ (xs : List ℤ). IsTrue b ↔
 differ : (b : Bool) → b ≡ false → b ≡ true → ⊥
 differ b e f = cc
 
-pub returns-then-is_at_rest : goal.returns-then-is_at_rest
-returns-then-is_at_rest c =
+pub returns-then-is_at_rest-clause-next : goal.returns-then-is_at_rest-clause-next
+returns-then-is_at_rest-clause-next c =
     (tells _ _ _ c.args.tol _ (c.deref.ensures.value ∙ c.in_ok-gradient.ensures.gradient) (to_z-of_z w64 c.args.tol c.ranges.tol) c.is_at_rest.ensures).0 c.if-is_at_rest.true
 
-pub returns-in-Some : goal.returns-in-Some
-returns-in-Some c = record {
+pub returns-in-Some-clause-next : goal.returns-in-Some-clause-next
+returns-in-Some-clause-next c = record {
   goes_on = record {
     restless = λ rest. differ c.is_at_rest.result c.if-is_at_rest.false
         ((tells _ _ _ c.args.tol _ (c.deref.ensures.value ∙ c.in_ok-gradient.ensures.gradient) (to_z-of_z w64 c.args.tol c.ranges.tol) c.is_at_rest.ensures).1 rest);
-    step_at = rw c.in-Some.is at c.in_ok-step_from.ensures.step;
+    step_at = rw c.in-Some.is at c.in_ok-step_at.ensures.step;
   };
-  pose = rw c.in-Some.is at c.in_ok-step_from.ensures.pose;
+  pose = rw c.in-Some.is at c.in_ok-step_at.ensures.pose;
 }
 
 pub gradient-requires-clause-pose : goal.gradient-requires-clause-pose

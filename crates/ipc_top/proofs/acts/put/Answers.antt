@@ -1,6 +1,7 @@
 use Rattle.std.proofs.Common.{[], ◌∙◌, ◌≡◌, refl, ap}
 use Rattle.std.specs.Io.KnownBytes.{append_known}
-use Rattle.ipc_top.specs.Lines.{write_fault_line}
+use Rattle.report_text.specs.declared.line.Line.TheVariants as lines
+use Rattle.report_text.specs.Lines.{text_of_line}
 use Rattle.ipc_top.specs.Acts.{Unwritten}
 use Rattle.ipc_top.proofs.ActsDone.{lacks_memory, stops_first, wrote_front}
 use Rattle.ipc_top.proofs.acts.put.Goals as goal
@@ -11,7 +12,7 @@ returns-in_err-line g c = lacks_memory _ _ _ _ c.from_residual.ensures.1
 pub returns-in-Ok-say_all : goal.returns-in-Ok-say_all
 returns-in-Ok-say_all g c =
     let h = c.in-Err.ensures in
-    let line : c.deref.result.now ≡ write_fault_line c.args.name.now = c.deref.ensures.value ∙ c.in_ok-line.ensures in
+    let line : c.deref.result.now ≡ text_of_line (lines.WriteFault c.args.name.now) = c.deref.ensures.value ∙ c.in_ok-line.ensures in
     stops_first _
     (record {
       fault = record {
@@ -32,10 +33,10 @@ pub returns : goal.returns
 returns g c =
     let h = c.in-Err.ensures in
     let s = c.in-Err-say_all.ensures in
-    let line : c.deref.result.now ≡ write_fault_line c.args.name.now = c.deref.ensures.value ∙ c.in_ok-line.ensures in
+    let line : c.deref.result.now ≡ text_of_line (lines.WriteFault c.args.name.now) = c.deref.ensures.value ∙ c.in_ok-line.ensures in
     stops_first _
     (record {
-      line = write_fault_line c.args.name.now;
+      line = lines.WriteFault c.args.name.now;
       part = s.part.0;
       which = Unwritten (record { name = c.args.name.now; text = c.args.text.now; later = []; next = refl; files = h.part; failed = h.failed; rose = h.write_faults.failed; read_faults = h.read_faults }) refl;
       written = wrote_front _ _ s.part.0 _ _ s.part.1 line;

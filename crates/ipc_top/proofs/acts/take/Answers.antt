@@ -1,6 +1,7 @@
 use Rattle.std.proofs.Common.{[], ◌∙◌, ◌≡◌, refl, ap}
 use Rattle.std.specs.Io.KnownBytes.{append_known}
-use Rattle.ipc_top.specs.Lines.{read_fault_line}
+use Rattle.report_text.specs.declared.line.Line.TheVariants as lines
+use Rattle.report_text.specs.Lines.{text_of_line}
 use Rattle.ipc_top.specs.Acts.{Take, Unread}
 use Rattle.ipc_top.proofs.ActsDone.{lacks_memory, due_first, stops_first, wrote_front}
 use Rattle.ipc_top.proofs.acts.take.Goals as goal
@@ -21,7 +22,7 @@ returns-in-Err-Memory-clause-does g c =
 pub returns-in-Ok-say_all-clause-does : goal.returns-in-Ok-say_all-clause-does
 returns-in-Ok-say_all-clause-does g c =
     let h = rw c.in-Err-Failed.field-0-is at c.in-Err-Failed.ensures in
-    let line : c.deref.result.now ≡ read_fault_line c.args.name.now = c.deref.ensures.value ∙ c.in_ok-line.ensures in
+    let line : c.deref.result.now ≡ text_of_line (lines.ReadFault c.args.name.now) = c.deref.ensures.value ∙ c.in_ok-line.ensures in
     stops_first _
     (record {
       fault = record {
@@ -41,10 +42,10 @@ pub returns-clause-does : goal.returns-clause-does
 returns-clause-does g c =
     let h = rw c.in-Err-Failed.field-0-is at c.in-Err-Failed.ensures in
     let s = c.in-Err.ensures in
-    let line : c.deref.result.now ≡ read_fault_line c.args.name.now = c.deref.ensures.value ∙ c.in_ok-line.ensures in
+    let line : c.deref.result.now ≡ text_of_line (lines.ReadFault c.args.name.now) = c.deref.ensures.value ∙ c.in_ok-line.ensures in
     stops_first _
     (record {
-      line = read_fault_line c.args.name.now;
+      line = lines.ReadFault c.args.name.now;
       part = s.part.0;
       which = Unread (record { name = c.args.name.now; later = []; next = refl; files = h.files; failed = h.refused.failed; rose = h.refused.read_faults; write_faults = h.write_faults }) refl;
       written = wrote_front _ _ s.part.0 _ _ s.part.1 line;

@@ -20,4 +20,4 @@ pub returns-clause-looks : goal.returns-clause-looks
 returns-clause-looks g c = λ s.
     let fault = c.in-Err-Text.fault in
     let first = rw c.in-Err-Text.field-0-is at c.in-Err-Text.ensures.refused in
-    looked_refused _ _ (MeshMeans (job_of c.args.job.now c.args.numbers) c.args.bytes.now) (mesh_refused_plan fault) _ (NoMesh fault first refl) (c.refuse_mesh.ensures s)
+    looked_refused _ _ (MeshMeans (job_of c.args.job.now c.args.numbers) c.args.bytes.now) (mesh_refused_plan fault) _ (NoMesh fault first refl) (c.refuse.ensures s)

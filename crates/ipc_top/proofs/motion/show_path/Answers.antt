@@ -12,4 +12,4 @@ returns-in_err-sim g c = λ frames are. shown_nothing (job_of c.args.job.now c.a
 pub returns : goal.returns
 returns g c = λ frames are.
     let tol : to_z w64 (of_z w64 c.args.job.now.tol) ≡ c.args.job.now.tol = search rules in
-    shown_from_start (λ s. job_of c.args.job.now s.numbers) c.args.setup _ c.in_ok-sim.sim frames _ c.in_ok-sim.ensures tol are c.show_frames.ensures
+    shown_from_start (λ s. job_of c.args.job.now s.numbers) c.args.setup _ _ c.in_ok-sim.sim frames _ c.in_ok-sim.ensures tol are c.show_frames.ensures

@@ -1,8 +1,7 @@
-use Rattle.std.proofs.Common.{[], ◌∷◌, ap, sym}
-use Rattle.ipc_top.specs.Acts.{Say}
+use Rattle.std.proofs.Common.{ap, sym}
+use Rattle.report_text.specs.declared.line.Line.TheVariants as lines
 use Rattle.ipc_top.specs.CallsFor.{SceneMeans, scene_outcome}
-use Rattle.ipc_top.specs.Lines.{scene_refused_line}
-use Rattle.ipc_top.specs.Plans.{plan_of}
+use Rattle.ipc_top.specs.Plans.{refusal}
 use Rattle.ipc_top.proofs.Outcomes.{some_scene, scene_texts}
 use Rattle.ipc_top.proofs.Taking.{looked_well, looked_nothing, looked_refused}
 use Rattle.ipc_top.proofs.scene.scene_of_bytes.Goals as goal
@@ -18,4 +17,4 @@ returns-in-Err-Memory-clause-looks g c = λ s.
 pub returns-in-Err-Scene-clause-looks : goal.returns-in-Err-Scene-clause-looks
 returns-in-Err-Scene-clause-looks g c = λ s.
     let refused = rw c.in-Err-Scene.field-0-is at c.in-Err-Scene.ensures.scene in
-    looked_refused _ _ (SceneMeans c.args.bytes.now) (plan_of (Say (scene_refused_line c.in-Err-Scene.err) ∷ []) 5) _ (ap scene_outcome (sym refused)) (c.refuse_scene.ensures s)
+    looked_refused _ _ (SceneMeans c.args.bytes.now) (refusal (lines.Scene c.in-Err-Scene.err) 5) _ (ap scene_outcome (sym refused)) (c.refuse.ensures s)

@@ -1,5 +1,5 @@
 use Rattle.std.proofs.Common.{◌∙◌, sym, map, string_bytes}
-use Rattle.ipc_top.proofs.Causes.{ends_some, ends_told, read_cause, write_cause, console_cause, answers, usage_means, no_command, completes}
+use Rattle.ipc_top.proofs.Causes.{ends_some, ends_told, read_cause, write_cause, console_cause, answers, usage_means, no_command, stack_status, completes}
 use Rattle.ipc_top.proofs.top.ipc_run.Goals as goal
 
 pub returns-clause-told : goal.returns-clause-told
@@ -16,6 +16,9 @@ returns-clause-usage g c = λ e. usage_means _ _ c.do_command.ensures.obeys (sym
 
 pub returns-clause-no_command : goal.returns-clause-no_command
 returns-clause-no_command g c = λ e. rw c.status.ensures (no_command (map string_bytes c.args.words.now) _ c.do_command.ensures.obeys e)
+
+pub returns-clause-stack : goal.returns-clause-stack
+returns-clause-stack g c = λ blocks e. rw c.status.ensures (stack_status (map string_bytes c.args.words.now) blocks _ c.do_command.ensures.obeys e)
 
 pub returns-clause-read : goal.returns-clause-read
 returns-clause-read g c = λ e. read_cause _ _ (ends_some _ _ c.do_command.ensures.obeys).closes (sym c.status.ensures ∙ e)

@@ -7,7 +7,6 @@ use Rattle.space3.specs.declared.vectors.V3.{V3}
 use Rattle.space3.specs.Mesh.{HasNodes, rest_determinant}
 use Rattle.surface_mesh.specs.declared.setup.Setup.{Setup}
 use Rattle.surface_mesh.specs.Setup.{IsSetup}
-use Rattle.line_search.specs.Accepted.{AreInReach}
 use Rattle.line_search.specs.Calls.Corners.{HasCertificate, IsShort}
 use Rattle.line_search.proofs.SafeSteps.{allowed_is_pose, pose_is_upright}
 use Rattle.potential_sum.specs.Upright.{HasShortEdges}

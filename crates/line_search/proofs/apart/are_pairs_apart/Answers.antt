@@ -1,7 +1,6 @@
-use Rattle.std.proofs.Common.{◌≡◌, ◌∙◌, ◌*◌, ap, subst, length, arith}
+use Rattle.std.proofs.Common.{◌∙◌, ◌*◌, ap, subst, length}
 use Rattle.safe_motion.specs.declared.depth.TheConstants.{DEPTH}
 use Rattle.pair_cert.specs.Tallies.{RisesAtMost, intervals_within}
-use Rattle.pair_cert.proofs.Tallies.{stays}
 use Rattle.line_search.proofs.AllPairs.{touching_are_pairs, touching_tell}
 use Rattle.line_search.proofs.apart.are_pairs_apart.Goals as goal
 

@@ -18,6 +18,7 @@ returns-in-Some-clause-first c =
     let lower-is : to_z w128 (of_z w128 c.in-Some.halving.lower) ≡ c.in-Some.halving.lower = search rules in
     record {
       first = subst (λ (d : List V3). IsFirstAccepted setup terms x d half) c.items.ensures found.first;
+      kind = refl;
       direction = refl;
       places = found.places ∙ ap (λ (d : List V3). moved_by x d half) c.items.ensures;
       lower = lower-is ∙ found.lower;

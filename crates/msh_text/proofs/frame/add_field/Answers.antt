@@ -5,4 +5,4 @@ pub returns-in_err-add-clause-kept : goal.returns-in_err-add-clause-kept
 returns-in_err-add-clause-kept c = on_err _ (begins_itself _ _ c.in_err-add.ensures.unchanged)
 
 pub returns-clause-kept : goal.returns-clause-kept
-returns-clause-kept c = begins_still-err _ _ _ _ _ c.in_ok-add.ensures.added c.add_number.ensures.unchanged
+returns-clause-kept c = begins_still-err _ _ _ _ _ c.in_ok-add.ensures.added c.number_text.ensures.unchanged

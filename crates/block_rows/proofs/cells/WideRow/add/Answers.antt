@@ -1,16 +1,15 @@
-use Rattle.std.proofs.Common.{List, ◌∙◌, ap, refl, subst, arith, ◌^◌}
+use Rattle.std.proofs.Common.{List, ◌∙◌, ap, refl, subst, ◌^◌}
 use Rattle.block_rows.specs.declared.cells.WideCell.{WideCell}
 use Rattle.block_rows.specs.Calls.Cells.{wide_entries, wide_matrix}
 use Rattle.block_rows.specs.Calls.Entries.{with_entry}
 use Rattle.block_rows.specs.Calls.Places.{IsGapFor, IsPlaceOf}
-use Rattle.block_rows.proofs.Bounds.{larger}
 use Rattle.block_rows.proofs.Placed.{added_at_place, in_gap, small_at}
 use Rattle.block_rows.proofs.cells.WideRow.add.Goals as goal
 
 pub sum_of_blocks-sum-requires-clause-left : goal.sum_of_blocks-sum-requires-clause-left
 sum_of_blocks-sum-requires-clause-left c =
     let place = subst (λ (cells : List WideCell). IsPlaceOf cells c.args.column c.in-Ok.at) c.deref.ensures.value c.in-Ok.ensures.found in
-    larger (2 ^ 120) (2 ^ 125) (omega arith) (wide_matrix c.index.result.now.block) (small_at (2 ^ 120) c.args.column c.self.inside.cells.items c.args.self.now c.in-Ok.at c.index.result.now c.self.view_is c.requires.small place c.index.ensures)
+    small_at (2 ^ 125) c.args.column c.self.inside.cells.items c.args.self.now c.in-Ok.at c.index.result.now c.self.view_is c.requires.small place c.index.ensures
 
 pub returns-in-Ok-clause-done : goal.returns-in-Ok-clause-done
 returns-in-Ok-clause-done c =

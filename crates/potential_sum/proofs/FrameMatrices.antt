@@ -1,0 +1,45 @@
+-- The matrix of a frame from the sums of blocks.
+use Rattle.std.proofs.Common.{◌≡◌, ◌∙◌, ℕ, ℤ, pos, List, ◌++◌, length, map, get_or, ap, sym, append_assoc, unsigned_abs}
+use Rattle.std.specs.List.{range_with_len}
+use Rattle.std.proofs.lemmas.Simd.{map-map}
+use Rattle.space3.specs.declared.vectors.V3.{V3}
+use Rattle.boundary.specs.declared.pairs.Pair.{Pair}
+use Rattle.broad_grid.specs.NearPairs.{close_pairs_of}
+use Rattle.surface_mesh.specs.declared.setup.Setup.{Setup}
+use Rattle.friction_lag.specs.declared.contacts.Contact.{Contact}
+use Rattle.friction_lag.specs.Lagged.{lagged_in}
+use Rattle.inertia_term.specs.Inertia.{inertia_block}
+use Rattle.potential_sum.specs.declared.bodies.Body.{Body}
+use Rattle.potential_sum.specs.Bodies.{elastic_tets}
+use Rattle.potential_sum.specs.Calls.Barriers.{barrier_at}
+use Rattle.potential_sum.specs.Calls.Friction.{friction_at}
+use Rattle.potential_sum.specs.Calls.Inertia.{part_at}
+use Rattle.potential_sum.specs.Calls.Kept.{elastic_in}
+use Rattle.potential_sum.specs.Calls.Stiffness.{at_pair, inertia_table, stiffness_of, sum_of_tables}
+use Rattle.potential_sum.specs.Contributions.{Contribution, elastic_contribution}
+use Rattle.potential_sum.specs.Matrix.{block_total, stiffness, stiffness_at}
+use Rattle.potential_sum.specs.Terms.{FrameTerms}
+use Rattle.potential_sum.proofs.Gradients.{contributions-kept}
+use Rattle.potential_sum.proofs.Stiffness.{none_right, stiffness_of-append}
+
+-- what inertia adds, as contributions
+inertia_stiffness : (masses : List ℤ) (targets x : List V3) (n : ℕ) → inertia_table masses n ≡ stiffness_of (map (part_at masses targets x) (range_with_len 0 n))
+inertia_stiffness masses targets x n = λ t. λ row column. each row column t
+  where
+    each : (row column : ℕ) → inertia_table masses n row column ≡ block_total (map (stiffness_at row column) (map (part_at masses targets x) (range_with_len 0 n)))
+    each row column =
+        (λ t. block_total (map (λ node. sym (none_right (at_pair node node (inertia_block (get_or masses node (pos 0))) row column)) t) (range_with_len 0 n)))
+        ∙ ap block_total (sym (map-map (stiffness_at row column) (part_at masses targets x) (range_with_len 0 n)))
+
+-- the sums of all contributions, from what is kept and from the pairs that were found
+pub stiffness-kept : (s : Setup) (frame : FrameTerms) (x : List V3) (bodies : List Body) (pairs : List Pair) (contacts : List Contact) → length x ≡ length s.mesh.numbers → map elastic_in bodies ≡ elastic_tets s →
+    pairs ≡ close_pairs_of (unsigned_abs s.numbers.dhat) s.surface x → map lagged_in contacts ≡ frame.contacts →
+    sum_of_tables (inertia_table s.mass (length x)) (stiffness_of (map (λ body. elastic_contribution x (elastic_in body)) bodies ++ map (barrier_at s x) pairs ++ map (friction_at s.numbers x) contacts)) ≡ stiffness s frame x
+stiffness-kept s frame x bodies pairs contacts e kept found lagged =
+    let nodes : List Contribution = map (part_at s.mass frame.targets x) (range_with_len 0 (length x)) in
+    let tets : List Contribution = map (λ body. elastic_contribution x (elastic_in body)) bodies in
+    let near : List Contribution = map (barrier_at s x) pairs in
+    let rubbing : List Contribution = map (friction_at s.numbers x) contacts in
+    ap (λ t. sum_of_tables t (stiffness_of (tets ++ near ++ rubbing))) (inertia_stiffness s.mass frame.targets x (length x))
+    ∙ sym (stiffness_of-append nodes (tets ++ near ++ rubbing))
+    ∙ ap stiffness_of (sym (append_assoc nodes (tets ++ near) rubbing) ∙ ap (λ parts. parts ++ rubbing) (sym (append_assoc nodes tets near)) ∙ contributions-kept s frame x bodies pairs contacts e kept found lagged)
