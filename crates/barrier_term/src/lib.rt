@@ -1,5 +1,9 @@
 //! The barrier between two parts of a surface that are close: its energy, slope, gradient and part of the matrix, as
 //! exact whole numbers. It is that of Li and others, "Incremental Potential Contact", 2020, in the squared distance.
+//!
+//! `active`: pairs that are nearer than dhat, and what energy, gradient and blocks share. `energy`, `gradient`:
+//! these two. `block`: one block, `blocks`: all sixteen at once. `laws`: energy falls with the distance, and where
+//! all is 0.
 #![tactic(auto)]
 
 mod active;

@@ -12,7 +12,7 @@ use Rattle.std.proofs.lemmas.List.Elements.{All-nil, All-cons, All-contains, Con
 use Rattle.std.proofs.lemmas.List.FromFn.{get_or-range_with_len, length-range_with_len}
 use Rattle.std.proofs.lemmas.List.Kept.{IsStrictlySortedBy-filter}
 use Rattle.std.proofs.lemmas.Option.{get_or_from_slice_get, slice_get_within}
-use Rattle.list_laws.proofs.Membership.{Contains-filter, Contains-flat_map, Contains-from_filter, Contains-from_flat_map, Contains-from_map, Contains-here, Contains-later, Contains-map}
+use Rattle.list_laws.proofs.Membership.{Contains-filter, Contains-flat_map, Contains-from_filter, Contains-from_flat_map, Contains-from_map, Contains-here, Contains-later, Contains-map, Contains-range}
 use Rattle.list_laws.proofs.StrictlySorted.{sorted_cons, sorted_nil}
 use Rattle.list_laws.proofs.SortedJoins.{one_place, sorted-flat_map, sorted-map, sorted-range_with_len}
 use Rattle.boundary.specs.declared.pairs.Pair.{Pair}
@@ -51,11 +51,6 @@ below : (n k : ℕ) → Contains (range_with_len 0 n) k → k < n
 below n k (i, l, e) =
     omega (arith, l, length-range_with_len 0 n, sym e ∙ get_or-range_with_len 0 n i k (omega (arith, l, length-range_with_len 0 n)))
 
-there : (n k : ℕ) → k < n → Contains (range_with_len 0 n) k
-there n k h =
-    let e : 0 + k ≡ k = omega arith in
-    (k, omega (arith, length-range_with_len 0 n), get_or-range_with_len 0 n k k h ∙ e)
-
 -- a pair of a kind with both parts in range
 record InAllPairs (kind : PairKind) (firsts seconds : ℕ) (p : Pair) : Type 0 where
   kind_is : p.kind ≡ kind
@@ -79,8 +74,8 @@ of_all_pairs kind firsts seconds p h =
 
 in_all_pairs : (p : Pair) (firsts seconds : ℕ) → p.a < firsts → p.b < seconds → Contains (all_pairs p.kind firsts seconds) p
 in_all_pairs p firsts seconds a b =
-    Contains-flat_map (λ k. map (pair_of p.kind k) (range_with_len 0 seconds)) (range_with_len 0 firsts) p.a p (there firsts p.a a)
-    (Contains-map (pair_of p.kind p.a) (range_with_len 0 seconds) p.b (there seconds p.b b))
+    Contains-flat_map (λ k. map (pair_of p.kind k) (range_with_len 0 seconds)) (range_with_len 0 firsts) p.a p (Contains-range firsts p.a a)
+    (Contains-map (pair_of p.kind p.a) (range_with_len 0 seconds) p.b (Contains-range seconds p.b b))
 
 all_pairs_sorted : (kind : PairKind) (firsts seconds : ℕ) → IsStrictlySortedBy pair_order (all_pairs kind firsts seconds)
 all_pairs_sorted kind firsts seconds =

@@ -1,5 +1,9 @@
 //! The boundary of a mesh: the triangles, edges and vertices that belong to one tetrahedron alone, or the least face
 //! that stands in the way of a boundary; and the order of the pairs of parts that must not meet.
+//!
+//! `surface`: the surface of a mesh, from `faces` of all tetrahedra, `groups` of equal ones, and `sides` of
+//! triangles; `refusal`: why there is none. `pairs`: the pairs of parts in order, `parts`: their corners. `limits`:
+//! how many triangles. `laws`: a mesh has one surface or one refusal.
 #![tactic(auto)]
 
 mod faces;

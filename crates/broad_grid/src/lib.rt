@@ -1,5 +1,8 @@
 //! The pairs of a surface's parts whose boxes touch in a motion, and those whose boxes are close at one moment, found
 //! by uniform grids without a look at each pair.
+//!
+//! `pairs`: the public calls. `near`: the walk over first parts. `boxes`: the boxes of all parts. `list`: a list of
+//! pairs. `laws`: what holds of the pairs that are left out.
 #![tactic(auto)]
 
 mod boxes;

@@ -2,6 +2,9 @@
 //!
 //! The logarithm to base 2 is the recurrence of repeated squaring, 24 bits behind the point. It is monotone, and
 //! 2^`lg(m)` and 2^(`lg(m)` + 2) are about the power `m`^(2^24).
+//!
+//! `logarithm`: the logarithm, and that of a quotient. `root`: the greatest root. `laws`: what both definitions
+//! stand on.
 #![tactic(auto)]
 
 mod laws;

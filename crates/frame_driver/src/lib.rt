@@ -1,4 +1,7 @@
 //! Frames: steps down the potential from the places of one frame to those of the next.
+//!
+//! `sim`: a simulation between two frames. `frame`: the steps of one frame, `steps`: the step at some places,
+//! Newton's or Jacobi's. `before`: the places before. `laws`: that there is one path, and what holds on it.
 #![tactic(auto)]
 
 mod before;

@@ -1,5 +1,9 @@
 //! Friction of a contact, lagged by a frame: the force, the normal and the weights are those of the frame's beginning.
 //! It is that of Li and others, "Incremental Potential Contact", 2020, as exact whole numbers.
+//!
+//! `contacts`, `lagged`: what a frame keeps of a contact, and how it is made. `slide`, `normal`: how far the parts
+//! slid, lengths and unit vectors. `smooth`: the length that friction works along. `friction`: energy, gradient, one
+//! block; `blocks`: all sixteen at once. `laws`: a worked case.
 #![tactic(auto)]
 
 mod blocks;

@@ -1,4 +1,6 @@
 //! Inertia of one node: what it adds to the potential of a frame, to its gradient and to its matrix.
+//!
+//! `target`: where a node would be without forces. `inertia`: energy, gradient and block. `laws`: worked cases.
 #![tactic(auto)]
 
 mod inertia;

@@ -1,5 +1,5 @@
 -- What comes of a file: always one thing, and only one.
-use Rattle.std.proofs.Common.{◌≡◌, ◌<◌, ◌≤◌, ◌+◌, ℕ, refl, ap, sym, subst, ◌∙◌, List, [], ◌∷◌, length, ◌⊎◌, inl, inr, Option, Some, None, Result, Ok, Err, arith}
+use Rattle.std.proofs.Common.{◌≡◌, ◌<◌, ◌≤◌, ℕ, refl, ap, sym, subst, ◌∙◌, List, [], length, ◌⊎◌, inl, inr, Option, Some, None, Result, Ok, Err, arith}
 use Rattle.std.proofs.Math.Decide.{dec_le}
 use Rattle.space3.specs.declared.mesh.Mesh.{Mesh}
 use Rattle.msh_text.specs.declared.refusal.MshErr.{MshErr}

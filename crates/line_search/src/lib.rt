@@ -1,4 +1,7 @@
 //! The line search: the least halving of a direction that is accepted.
+//!
+//! `step`: the step of a direction and the public call, `halvings`: its halvings, one after another. `allowed`:
+//! whether a step is allowed, `apart`: whether its pairs are certified. `end`: how a frame ends.
 #![tactic(auto)]
 
 mod allowed;

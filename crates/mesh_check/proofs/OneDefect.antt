@@ -1,5 +1,5 @@
 -- A setup has a first defect, or none, and only one.
-use Rattle.std.proofs.Common.{◌≡◌, ◌∙◌, List, ◌++◌, ◌∷◌, ◌⊎◌, inl, inr, map, refl, sym, ap, subst}
+use Rattle.std.proofs.Common.{◌≡◌, ◌∙◌, List, ◌∷◌, ◌⊎◌, inl, inr, map, refl, sym, ap, subst}
 use Rattle.std.specs.Prelude.{All, Option, Some, None}
 use Rattle.std.proofs.lemmas.List.Elements.{All-head}
 use Rattle.list_laws.specs.Firsts.{IsFirstOf}

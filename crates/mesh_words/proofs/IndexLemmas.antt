@@ -1,13 +1,13 @@
 -- What the index keeps when a number comes.
-use Rattle.std.proofs.Common.{◌≡◌, ◌==◌, ℕ, suc, ◌+◌, ◌<◌, ◌≤◌, nat_lt, Bool, true, false, cond, List, [], ◌∷◌, ◌++◌, length, Option, Some, None, refl, sym, ap, ◌∙◌, arith, inl, inr}
+use Rattle.std.proofs.Common.{◌≡◌, ◌==◌, ℕ, suc, ◌+◌, ◌<◌, ◌≤◌, nat_lt, Bool, true, false, cond, List, [], ◌∷◌, ◌++◌, length, Option, Some, None, refl, sym, ap, ◌∙◌, arith}
 use Rattle.std.specs.Prelude.{slice_index}
 use Rattle.std.specs.Ordering.{nat_cmp, is_eq}
-use Rattle.std.proofs.lemmas.Bool.{cases_Bool, eqb-true, eq-eqb}
+use Rattle.std.proofs.lemmas.Bool.{eqb-true}
 use Rattle.std.proofs.lemmas.Bool.Decides.{nat_tests}
 use Rattle.std.proofs.lemmas.List.{length-append}
 use Rattle.mesh_words.specs.Numbers.{position_of}
 use Rattle.mesh_words.specs.Index.{IsIndex, entry_of, found_in}
-use Rattle.mesh_words.proofs.Positions.{or_last, position_of-append, position_of-below}
+use Rattle.mesh_words.proofs.Positions.{or_last, position_of-append}
 
 pub empty_index : (far : ℕ → Option ℕ) → ((n : ℕ) → far n ≡ None) → IsIndex [] [] far
 unfolding position_of
@@ -30,7 +30,7 @@ same_place ns n q e none =
 other_place : (ns : List ℕ) (n q : ℕ) → (n == q) ≡ false → position_of (ns ++ n ∷ []) q ≡ position_of ns q
 other_place ns n q e = position_of-append ns n q ∙ rw e (last_or (position_of ns q) (length ns))
 
-flipped : (n q : ℕ) (b : Bool) → (n == q) ≡ b → (q == n) ≡ b
+pub flipped : (n q : ℕ) (b : Bool) → (n == q) ≡ b → (q == n) ≡ b
 flipped n q b e = grind (arith, nat_tests)
 
 -- a number below the limit comes

@@ -1,6 +1,6 @@
 -- The row of an element, from its parts.
-use Rattle.std.proofs.Common.{◌≡◌, ◌==◌, ◌∙◌, ℕ, zero, suc, ◌+◌, Bool, true, false, cond, ℤ, List, [], ◌∷◌, length, map, take, drop, Option, Some, None, refl, sym, ap, arith}
-use Rattle.std.specs.Prelude.{is_some, not, nat_le}
+use Rattle.std.proofs.Common.{◌≡◌, ◌∙◌, ℕ, ◌+◌, Bool, true, ℤ, List, [], ◌∷◌, length, map, take, drop, Option, Some, None, refl, sym, ap}
+use Rattle.std.specs.Prelude.{is_some}
 use Rattle.std.proofs.lemmas.Bool.{eq-eqb}
 use Rattle.line_fields.specs.Lines.{fields, tag_of, whole_of, is_whole}
 use Rattle.space3.specs.declared.lists.Tet.{Tet}
@@ -16,7 +16,7 @@ use Rattle.msh_rows.specs.declared.elements.Head.{Head}
 use Rattle.msh_rows.specs.declared.elements.RowErr.{RowErr}
 use Rattle.msh_rows.specs.declared.elements.RowErr.TheVariants as errors
 use Rattle.msh_rows.specs.Rows.{every, element_of, as_tet, tet}
-use Rattle.msh_rows.specs.RowKinds.{tag_kind, head_kind, tag_fields, node_fields, corner_kind, tet_kind, element_row_kind, FailsRow}
+use Rattle.msh_rows.specs.RowKinds.{tag_kind, head_kind, corner_kind, tet_kind, element_row_kind, FailsRow}
 use Rattle.msh_rows.specs.Calls.Elements.{IsHead, AreTags, corners_kind}
 
 -- ---- what an element's row means

@@ -1,9 +1,8 @@
 -- A row with which nothing is wrong means something, and what means something has nothing wrong with it.
-use Rattle.std.proofs.Common.{◌≡◌, ◌==◌, ◌∙◌, ℕ, zero, suc, ◌+◌, ◌<◌, ◌≤◌, Bool, true, false, cond, ℤ, List, [], ◌∷◌, length, map, take, drop, Option, Some, None, Result, Ok, Err, refl, sym, ap, subst, arith}
-use Rattle.std.specs.Prelude.{is_some, not, nat_le, nat_lt, codes, unwrap_or, slice_index, unsigned_abs, IsSome}
-use Rattle.std.specs.List.{AllByRecursion}
+use Rattle.std.proofs.Common.{◌≡◌, ◌==◌, ◌∙◌, ℕ, ◌+◌, ◌≤◌, Bool, true, false, ℤ, List, [], ◌∷◌, length, map, take, drop, Option, Some, None, Result, Ok, Err, refl, sym, ap, subst, arith}
+use Rattle.std.specs.Prelude.{is_some, not, nat_lt, codes, unwrap_or, IsSome}
 use Rattle.std.specs.Str.{bytes_eq}
-use Rattle.std.proofs.lemmas.Bool.{eqb-true, eq-eqb, ltb-true, le-leb, leb-true}
+use Rattle.std.proofs.lemmas.Bool.{eqb-true, eq-eqb}
 use Rattle.std.proofs.lemmas.Bool.Decides.{nat_tests}
 use Rattle.std.proofs.lemmas.Option.{same_Some, cond_some}
 use Rattle.line_fields.specs.Lines.{tag_of, whole_of}
@@ -16,18 +15,17 @@ use Rattle.space3.specs.declared.lists.Tet.{Tet}
 use Rattle.space3.specs.Vectors.{vector}
 use Rattle.space3.specs.Mesh.{IsNumber}
 use Rattle.mesh_words.specs.declared.kinds.MshKind.{MshKind}
-use Rattle.mesh_words.specs.declared.kinds.MshKind.TheVariants.{BadNumber, UnknownNode}
+use Rattle.mesh_words.specs.declared.kinds.MshKind.TheVariants.{BadNumber}
 use Rattle.mesh_words.specs.declared.elements.ElementType.{ElementType}
-use Rattle.mesh_words.specs.declared.elements.ElementType.TheVariants.{Tetrahedron}
 use Rattle.mesh_words.specs.Rows.{Row, field_at, is_dollar, is_word}
 use Rattle.mesh_words.specs.Numbers.{◌>>=◌, number_of, tag_count_of, node_at, position_of}
 use Rattle.mesh_words.specs.Elements.{element_type_of, type_of_code, node_count}
-use Rattle.mesh_words.specs.Kinds.{first_of, or_else, kind_if, kind_without, node_kind, type_kind, code_kind, name_kind, coordinate_kind, coordinate_of, grid_kind, place_of_result}
-use Rattle.mesh_words.proofs.FieldValues.{bind_some, number_found, number_no_dollar, whole_no_dollar, tag_count_found, tag_found, node_found}
-use Rattle.mesh_words.proofs.SectionWords.{bytes_eq-true, bytes_eq-same}
-use Rattle.msh_rows.specs.Rows.{every, count_of, node_of, place_at, element_of, as_tet, tet, are_different}
-use Rattle.msh_rows.specs.RowKinds.{end_row_kind, format_row_kind, count_row_kind, node_count_row_kind, place_kind, node_row_kind, field_count_of, tag_kind, head_kind, tag_fields, node_fields, corner_kind, tet_kind, element_row_kind}
-use Rattle.msh_rows.proofs.ElementRows.{both_none, node_there, every_there, shape_of, value_of}
+use Rattle.mesh_words.specs.Kinds.{first_of, kind_if, kind_without, node_kind, type_kind, code_kind, coordinate_kind, coordinate_of, grid_kind, place_of_result}
+use Rattle.mesh_words.proofs.FieldValues.{bind_some, number_found, number_no_dollar, whole_no_dollar}
+use Rattle.mesh_words.proofs.SectionWords.{bytes_eq-true}
+use Rattle.msh_rows.specs.Rows.{every, count_of, node_of, place_at, element_of, as_tet, tet}
+use Rattle.msh_rows.specs.RowKinds.{end_row_kind, format_row_kind, count_row_kind, node_count_row_kind, place_kind, node_row_kind, field_count_of, tag_kind, head_kind, tag_fields, node_fields, tet_kind, element_row_kind}
+use Rattle.msh_rows.proofs.ElementRows.{both_none, node_there, every_there, value_of}
 
 -- ---- kinds that are none
 
@@ -224,20 +222,17 @@ node_taken digits snap numbers (a ∷ b ∷ c ∷ d ∷ []) node e g =
     node_kinds digits snap numbers a b c d n place n-is place-is (ap (λ (m : ℕ × V3). position_of numbers m.0) same ∙ g)))
 node_taken digits snap numbers (a ∷ b ∷ c ∷ d ∷ k ∷ more) node e g = absurd cc
 
-node_numbered : (digits : ℕ) (snap : Snap) (row : Row) (node : ℕ × V3) → node_of digits snap row ≡ Some node → IsNumber node.0
+pub node_number : (digits : ℕ) (snap : Snap) (row : Row) (node : ℕ × V3) → node_of digits snap row ≡ Some node → IsNumber node.0
 unfolding node_of
-node_numbered digits snap [] node e = absurd cc
-node_numbered digits snap (a ∷ []) node e = absurd cc
-node_numbered digits snap (a ∷ b ∷ []) node e = absurd cc
-node_numbered digits snap (a ∷ b ∷ c ∷ []) node e = absurd cc
-node_numbered digits snap (a ∷ b ∷ c ∷ d ∷ []) node e =
+node_number digits snap [] node e = absurd cc
+node_number digits snap (a ∷ []) node e = absurd cc
+node_number digits snap (a ∷ b ∷ []) node e = absurd cc
+node_number digits snap (a ∷ b ∷ c ∷ []) node e = absurd cc
+node_number digits snap (a ∷ b ∷ c ∷ d ∷ []) node e =
     bind_some (number_of a) _ node e (λ n n-is e.
     bind_some (place_at digits snap b c d) _ node e (λ place place-is e.
     subst (λ (m : ℕ × V3). IsNumber m.0) (same_Some _ _ e) (number_found a n n-is)))
-node_numbered digits snap (a ∷ b ∷ c ∷ d ∷ k ∷ more) node e = absurd cc
-
-pub node_number : (digits : ℕ) (snap : Snap) (row : Row) (node : ℕ × V3) → node_of digits snap row ≡ Some node → IsNumber node.0
-node_number = node_numbered
+node_number digits snap (a ∷ b ∷ c ∷ d ∷ k ∷ more) node e = absurd cc
 
 -- ---- elements
 

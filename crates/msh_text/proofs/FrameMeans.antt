@@ -1,19 +1,18 @@
 -- The text of a frame means the mesh at its places.
-use Rattle.std.proofs.Common.{◌≡◌, ◌==◌, ◌∙◌, ℕ, zero, suc, ◌+◌, ◌<◌, ◌≤◌, ◌^◌, Bool, true, false, cond, ℤ, List, [], ◌∷◌, ◌++◌, length, map, take, drop, Option, Some, None, refl, sym, ap, subst, arith, All, decimal}
-use Rattle.std.specs.Prelude.{codes, slice_index, unsigned_abs, leb, option_map, not, ◌&&◌, is_some}
+use Rattle.std.proofs.Common.{◌≡◌, ◌==◌, ◌∙◌, ℕ, zero, suc, ◌+◌, ◌<◌, ◌≤◌, Bool, true, false, ℤ, List, [], ◌∷◌, ◌++◌, length, map, take, drop, Some, refl, sym, ap, subst, arith, All, decimal}
+use Rattle.std.specs.Prelude.{codes, slice_index, unsigned_abs}
 use Rattle.std.specs.Fmt.{signed_decimal}
 use Rattle.std.specs.List.{zip, flat_map, list_all, IsDistinct, AllByRecursion}
 use Rattle.std.proofs.Math.Seq.{take-append_seam, drop-append_seam}
 use Rattle.std.proofs.lemmas.Bool.{and_parts, and_from, eq-eqb, le-leb, ne_eqb}
 use Rattle.std.proofs.lemmas.List.{append-nil, length-append, length-map}
-use Rattle.std.proofs.lemmas.List.Elements.{All-head, All-tail, recursion_from_All}
+use Rattle.std.proofs.lemmas.List.Elements.{recursion_from_All}
 use Rattle.std.proofs.lemmas.Slice.Zip.{length-zip}
 use Rattle.line_fields.specs.Lines.{rows, fields, is_filled, whole_of, is_whole, tag_of}
 use Rattle.line_fields.proofs.Fields.{filled_from_length}
 use Rattle.line_fields.proofs.Written.{is_plain, is_plain_field, is_plain_row, rows-written, whole_of-decimal, tag_of-signed_decimal, is_plain_field-decimal, is_plain_field-signed_decimal}
 use Rattle.dec_text.specs.declared.Snap.TheVariants.{Exact}
 use Rattle.dec_text.specs.GridText.{grid_decimal}
-use Rattle.dec_text.specs.Grid.{grid_value}
 use Rattle.dec_text.proofs.GridTexts.{read_back, place_is_word}
 use Rattle.space3.specs.declared.vectors.V3.{V3}
 use Rattle.space3.specs.declared.lists.Tet.{Tet}
@@ -26,11 +25,11 @@ use Rattle.mesh_words.specs.Numbers.{number_of, tag_count_of, position_of, node_
 use Rattle.mesh_words.specs.Elements.{element_type_of}
 use Rattle.mesh_words.specs.Kinds.{coordinate_of, place_of_result}
 use Rattle.msh_rows.specs.declared.sections.Opening.TheVariants as openings
-use Rattle.msh_rows.specs.Rows.{opening_of, count_of, node_of, element_of, every, tet}
+use Rattle.msh_rows.specs.Rows.{opening_of, count_of, node_of, element_of, every}
 use Rattle.msh_rows.proofs.ElementRows.{value_of}
 use Rattle.msh_text.specs.MeshText.{nothing_skipped, IsFormatSection, IsNodeSection, IsElementSection, kept, Means}
 use Rattle.msh_text.specs.Texts.{TextMeans}
-use Rattle.msh_text.specs.Frame.{node_row, tet_row, head_rows, node_rows, tet_rows, frame_rows, frame_text, line_of, placed_at}
+use Rattle.msh_text.specs.Frame.{node_row, tet_row, head_rows, node_rows, tet_rows, frame_rows, frame_text, placed_at}
 
 -- ---- numbers, tags and coordinates are read back
 

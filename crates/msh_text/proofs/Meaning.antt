@@ -1,5 +1,5 @@
 -- A text means a mesh or has a first fault.
-use Rattle.std.proofs.Common.{◌≡◌, ◌∙◌, ◌⊎◌, ℕ, ◌++◌, length, List, Option, Some, None, Result, Ok, Err, inl, inr, refl, sym, ap, subst}
+use Rattle.std.proofs.Common.{◌≡◌, ◌∙◌, ◌⊎◌, ℕ, length, List, Some, Result, Ok, Err, inl, inr, refl, sym, ap, subst}
 use Rattle.line_fields.specs.Lines.{lines, rows, numbered}
 use Rattle.line_fields.proofs.Numbered.{numbered-rows}
 use Rattle.dec_text.specs.declared.Snap.{Snap}
@@ -11,7 +11,7 @@ use Rattle.msh_text.specs.MeshText.{Means}
 use Rattle.msh_text.specs.FirstFault.{Line, start, IsFirstFault}
 use Rattle.msh_text.specs.Texts.{rows_of, TextMeans, IsTextFault, Refuses}
 use Rattle.msh_text.specs.Calls.Reading.{read, Fails}
-use Rattle.msh_text.proofs.Gets.{gets, gets-read, ok_of}
+use Rattle.msh_text.proofs.Gets.{gets-read, ok_of}
 use Rattle.msh_text.proofs.FaultsRead.{read-first, first-read, one_first}
 use Rattle.msh_text.proofs.ReadIsMeant.{gets-means}
 use Rattle.msh_text.proofs.MeantIsRead.{means-gets}

@@ -1,5 +1,5 @@
 -- The mesh that the rows mean is read from them.
-use Rattle.std.proofs.Common.{◌≡◌, ◌==◌, ◌∙◌, ℕ, zero, suc, ◌+◌, ◌<◌, ◌≤◌, Bool, true, false, cond, List, [], ◌∷◌, ◌++◌, length, map, Option, Some, None, refl, sym, ap, subst, append_assoc, arith, All}
+use Rattle.std.proofs.Common.{◌≡◌, ◌==◌, ◌∙◌, ℕ, suc, ◌+◌, ◌<◌, ◌≤◌, Bool, true, false, cond, List, [], ◌∷◌, ◌++◌, length, map, Option, Some, None, refl, sym, ap, subst, append_assoc, arith, All}
 use Rattle.std.specs.Prelude.{codes, nat_lt, nat_le}
 use Rattle.std.specs.List.{zip, flat_map, IsDistinct, AllByRecursion}
 use Rattle.std.proofs.lemmas.Bool.Decides.{nat_tests}
@@ -15,13 +15,13 @@ use Rattle.mesh_words.specs.Rows.{Row, is_word, is_end, name_of}
 use Rattle.mesh_words.specs.Numbers.{position_of}
 use Rattle.msh_rows.specs.declared.sections.Opening.{Opening}
 use Rattle.msh_rows.specs.declared.sections.Opening.TheVariants as openings
-use Rattle.msh_rows.specs.Rows.{opening_of, count_of, node_of, element_of, are_different}
-use Rattle.msh_rows.specs.RowKinds.{tet_kind, node_row_kind, end_row_kind, format_row_kind, element_row_kind}
+use Rattle.msh_rows.specs.Rows.{opening_of, count_of, node_of, element_of}
+use Rattle.msh_rows.specs.RowKinds.{tet_kind, format_row_kind}
 use Rattle.msh_rows.proofs.RowMeanings.{end_taken, count_taken, node_count_taken, format_taken, node_taken, element_taken}
 use Rattle.msh_text.specs.declared.stage.Opened.{Opened}
 use Rattle.msh_text.specs.declared.stage.Opened.TheVariants as opened
 use Rattle.msh_text.specs.MeshText.{AreSkipped, nothing_skipped, row_skipped, section_skipped, IsSection, IsFormat, IsFormatSection, IsNodeSection, IsElementSection, kept, Means}
-use Rattle.msh_text.specs.FirstFault.{Stage, Outside, Skipping, AtFormat, AtFormatEnd, AtNodeCount, AtNodes, AtElementCount, AtElements, Progress, progress, start, mesh_of, kind_on, with_node, with_element, next, end_kind}
+use Rattle.msh_text.specs.FirstFault.{Outside, Skipping, AtFormat, AtFormatEnd, AtNodeCount, AtNodes, AtElementCount, AtElements, Progress, progress, start, mesh_of, kind_on, with_node, with_element, next, end_kind}
 use Rattle.msh_text.proofs.Gets.{gets, gets-on, gets-end}
 use Rattle.msh_text.proofs.Numbers.{AreNew, AreNew-tail, AreNew-from_none, AreNew-position, are_different-IsDistinct}
 use Rattle.msh_text.proofs.ReadIsMeant.{with_nodes, with_tets}

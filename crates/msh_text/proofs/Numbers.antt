@@ -2,23 +2,20 @@
 use Rattle.std.proofs.Common.{◌≡◌, ◌==◌, ◌++◌, ℕ, Bool, true, false, List, [], ◌∷◌, Option, Some, None, refl, sym, ap, ◌∙◌}
 use Rattle.std.specs.Prelude.{is_some}
 use Rattle.std.specs.List.{list_any, IsDistinct, AllByRecursion}
-use Rattle.std.proofs.lemmas.Bool.{eqb-true, eq-eqb, or_parts, or_from, and_parts, and_from, not-true, not_from_false, false_from_ne_true, both_ways}
+use Rattle.std.proofs.lemmas.Bool.{or_parts, or_from, and_parts, and_from, not-true, not_from_false}
 use Rattle.std.proofs.lemmas.List.Folds.{list_any-append}
 use Rattle.mesh_words.specs.Numbers.{position_of}
+use Rattle.mesh_words.proofs.IndexLemmas.{flipped}
 use Rattle.mesh_words.proofs.Positions.{list_any-position}
 use Rattle.msh_rows.specs.Rows.{are_different}
 
-eqb-flip : (a b : ℕ) (r : Bool) → (a == b) ≡ r → (b == a) ≡ r
-eqb-flip a b true e = eq-eqb b a (sym (eqb-true a b e))
-eqb-flip a b false e = false_from_ne_true (b == a) (λ t. both_ways (a == b) e (eq-eqb a b (sym (eqb-true b a t))))
-
 all_others : (n : ℕ) (ns : List ℕ) → list_any (λ m. m == n) ns ≡ false → AllByRecursion (λ m. (n == m) ≡ false) ns
 all_others n [] e = tt
-all_others n (m ∷ ms) e = let p = or_parts _ _ e in (eqb-flip m n false p.0, all_others n ms p.1)
+all_others n (m ∷ ms) e = let p = or_parts _ _ e in (flipped m n false p.0, all_others n ms p.1)
 
 no_other : (n : ℕ) (ns : List ℕ) → AllByRecursion (λ m. (n == m) ≡ false) ns → list_any (λ m. m == n) ns ≡ false
 no_other n [] h = refl
-no_other n (m ∷ ms) h = or_from _ _ (eqb-flip n m false h.0) (no_other n ms h.1)
+no_other n (m ∷ ms) h = or_from _ _ (flipped n m false h.0) (no_other n ms h.1)
 
 pub IsDistinct-are_different : (ns : List ℕ) → are_different ns ≡ true → IsDistinct (λ i j. i == j) ns
 unfolding are_different IsDistinct

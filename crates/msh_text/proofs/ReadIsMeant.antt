@@ -1,5 +1,5 @@
 -- The mesh that is read is the one that the rows mean.
-use Rattle.std.proofs.Common.{◌≡◌, ◌∙◌, ℕ, zero, suc, ◌+◌, ◌<◌, ◌≤◌, Bool, true, false, cond, List, [], ◌∷◌, ◌++◌, length, map, Option, Some, None, refl, sym, ap, subst, append_assoc, arith, All}
+use Rattle.std.proofs.Common.{◌≡◌, ◌∙◌, ℕ, zero, suc, ◌+◌, ◌≤◌, Bool, true, false, cond, List, [], ◌∷◌, ◌++◌, length, map, Option, Some, None, refl, sym, ap, subst, append_assoc, arith, All}
 use Rattle.std.specs.Prelude.{codes, nat_lt, unwrap_or}
 use Rattle.std.specs.List.{zip, flat_map}
 use Rattle.std.proofs.lemmas.Bool.Decides.{nat_tests}
@@ -15,13 +15,13 @@ use Rattle.msh_rows.specs.declared.sections.Opening.{Opening}
 use Rattle.msh_rows.specs.declared.sections.Opening.TheVariants as openings
 use Rattle.msh_rows.specs.Rows.{opening_of, count_of, node_of, element_of}
 use Rattle.msh_rows.specs.RowKinds.{node_row_kind, end_row_kind, count_row_kind, node_count_row_kind}
-use Rattle.msh_rows.proofs.RowMeanings.{end_free, count_free, node_count_free, format_free, node_free, NodeRow, element_free, ElementRow}
+use Rattle.msh_rows.proofs.RowMeanings.{end_free, count_free, node_count_free, format_free, node_free, element_free}
 use Rattle.msh_text.specs.declared.stage.Opened.{Opened}
 use Rattle.msh_text.specs.declared.stage.Opened.TheVariants as opened
-use Rattle.msh_text.specs.MeshText.{AreSkipped, nothing_skipped, row_skipped, section_skipped, IsSection, IsFormat, IsNodeSection, IsElementSection, kept, Means}
-use Rattle.msh_text.specs.FirstFault.{Stage, Outside, Skipping, AtFormat, AtFormatEnd, AtNodeCount, AtNodes, AtElementCount, AtElements, Progress, progress, start, mesh_of, opening_kind, kind_at, kind_on, opens, with_node, with_element, stage_after, mesh_after, next, end_at, end_kind}
+use Rattle.msh_text.specs.MeshText.{AreSkipped, nothing_skipped, row_skipped, section_skipped, IsFormat, kept, Means}
+use Rattle.msh_text.specs.FirstFault.{Stage, Outside, Skipping, AtFormat, AtFormatEnd, AtNodeCount, AtNodes, AtElementCount, AtElements, Progress, start, mesh_of, opening_kind, kind_at, kind_on, opens, with_node, with_element, stage_after, mesh_after, next, end_at, end_kind}
 use Rattle.msh_text.proofs.Gets.{gets, gets-through, gets-at_end}
-use Rattle.msh_text.proofs.SoundSoFar.{SoundSoFar, HasRoom, StageFits, Fits, fits-start, fits-next, sound_whole}
+use Rattle.msh_text.proofs.SoundSoFar.{StageFits, Fits, fits-start, fits-next, sound_whole}
 
 -- ---- what the rows mean from a stage on, down to the mesh at the end
 

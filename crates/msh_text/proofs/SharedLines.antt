@@ -4,7 +4,6 @@ use Rattle.std.specs.List.{enumerate_from, AllByRecursion}
 use Rattle.std.proofs.lemmas.List.{map-append}
 use Rattle.std.proofs.lemmas.List.Elements.{filter-append}
 use Rattle.line_fields.specs.Lines.{lines, fields, is_filled, numbered, numbered_from, with_fields}
-use Rattle.space3.specs.declared.mesh.Mesh.{Mesh}
 use Rattle.msh_text.specs.declared.refusal.MshErr.{MshErr}
 use Rattle.msh_text.specs.FirstFault.{Line, start, FaultOnRow, IsFirstFaultFrom}
 use Rattle.dec_text.specs.declared.Snap.{Snap}

@@ -1,8 +1,8 @@
 -- The mesh is sound as far as it has been read.
-use Rattle.std.proofs.Common.{◌≡◌, ◌==◌, ◌∙◌, ℕ, zero, suc, ◌+◌, ◌-◌, ◌<◌, ◌≤◌, Bool, true, false, cond, ℤ, List, [], ◌∷◌, ◌++◌, length, map, take, drop, length-drop, Option, Some, None, refl, sym, ap, subst, arith}
-use Rattle.std.specs.Prelude.{codes, not, nat_le, nat_lt, unwrap_or, unsigned_abs, min}
+use Rattle.std.proofs.Common.{◌≡◌, ◌==◌, ◌∙◌, ℕ, zero, suc, ◌+◌, ◌-◌, ◌<◌, ◌≤◌, Bool, true, false, cond, List, [], ◌∷◌, ◌++◌, length, take, drop, length-drop, Option, Some, None, refl, sym, ap, subst, arith}
+use Rattle.std.specs.Prelude.{codes, not, nat_lt, unwrap_or, unsigned_abs}
 use Rattle.std.specs.List.{IsDistinct, AllByRecursion}
-use Rattle.std.proofs.lemmas.Bool.{leb-false, ltb-true}
+use Rattle.std.proofs.lemmas.Bool.{leb-false}
 use Rattle.std.proofs.lemmas.Bool.Decides.{nat_tests}
 use Rattle.std.proofs.lemmas.Option.{same_Some}
 use Rattle.std.proofs.lemmas.List.{append-nil, length-append}
@@ -16,18 +16,17 @@ use Rattle.space3.specs.Mesh.{IsNumber, IsSoundTet, IsSound}
 use Rattle.mesh_words.specs.declared.elements.ElementType.{ElementType}
 use Rattle.mesh_words.specs.declared.elements.ElementType.TheVariants.{Point, Line, Triangle, Tetrahedron}
 use Rattle.mesh_words.specs.Rows.{Row, is_end}
-use Rattle.mesh_words.specs.Numbers.{◌>>=◌, number_of, node_at, position_of}
+use Rattle.mesh_words.specs.Numbers.{node_at, position_of}
 use Rattle.mesh_words.specs.Elements.{node_count}
 use Rattle.mesh_words.proofs.FieldValues.{bind_some, number_found, tag_count_found, tag_found, node_found}
 use Rattle.msh_rows.specs.declared.sections.Opening.{Opening}
 use Rattle.msh_rows.specs.declared.sections.Opening.TheVariants as openings
 use Rattle.msh_rows.specs.Rows.{every, opening_of, count_of, node_of, element_of, as_tet, tet, are_different}
-use Rattle.msh_rows.specs.RowKinds.{corner_kind, tet_kind, node_row_kind, end_row_kind}
+use Rattle.msh_rows.specs.RowKinds.{tet_kind, node_row_kind, end_row_kind}
 use Rattle.msh_rows.proofs.ElementRows.{both_none}
 use Rattle.msh_rows.proofs.RowMeanings.{no_kind, node_count_free, node_free, node_number, NodeRow, element_free, ElementRow, parts_found, HasParts}
 use Rattle.msh_text.specs.declared.stage.Opened.{Opened}
 use Rattle.msh_text.specs.declared.stage.Opened.TheVariants as opened
-use Rattle.msh_text.specs.MeshText.{kept}
 use Rattle.msh_text.specs.FirstFault.{Stage, Outside, Skipping, AtFormat, AtFormatEnd, AtNodeCount, AtNodes, AtElementCount, AtElements, mesh_of, opening_kind, kind_at, opens, with_node, with_element, stage_after, mesh_after}
 use Rattle.msh_text.proofs.Numbers.{IsDistinct-are_different, IsDistinct-more, not_there}
 

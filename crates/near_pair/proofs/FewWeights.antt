@@ -1,25 +1,16 @@
 -- The nearest points of a pair have four weights.
-use Rattle.std.proofs.Common.{◌≡◌, ◌+◌, ◌≤◌, ℤ, Bool, true, false, cond, List, [], ◌∷◌, length, Some, None, refl, arith}
-use Rattle.std.specs.Prelude.{All, Option}
+use Rattle.std.proofs.Common.{◌≡◌, ◌+◌, ◌≤◌, Bool, true, false, cond, List, [], ◌∷◌, length, Some, refl, arith}
+use Rattle.std.specs.Prelude.{All}
 use Rattle.std.specs.List.{filter, find, list_all}
 use Rattle.std.proofs.lemmas.List.{length-append}
 use Rattle.std.proofs.lemmas.List.Elements.{All-filter, All-from_recursion, All-head, All-tail}
 use Rattle.space3.specs.declared.vectors.V3.{V3}
 use Rattle.nearest.specs.Candidates.{Candidate, is_at_most, is_valid, nearest_in}
 use Rattle.nearest.specs.PointAndTriangle.{vt_candidates}
-use Rattle.nearest.specs.RoundedWeights.{part_of, rounded_weights, shares_of}
+use Rattle.nearest.specs.RoundedWeights.{part_of, rounded_weights}
 use Rattle.nearest.specs.TwoEdges.{ee_candidates}
+use Rattle.nearest.proofs.Coefficients.{length-part}
 use Rattle.near_pair.specs.Answers.{near_between, near_by}
-
-length-shares : (den : ℤ) (ws : List (Option ℤ)) → length (shares_of den ws) ≡ length ws
-length-shares den [] = refl
-length-shares den (Some w ∷ ws) = omega (arith, length-shares den ws)
-length-shares den (None ∷ ws) = omega (arith, length-shares den ws)
-
-length-part : (den : ℤ) (ws : List (Option ℤ)) → length (part_of den ws) ≡ length ws
-length-part den [] = refl
-length-part den (Some w ∷ ws) = omega (arith, length-shares den ws)
-length-part den (None ∷ ws) = omega (arith, length-part den ws)
 
 -- a candidate with four weights
 abbrev HasFour : Candidate → Type 0

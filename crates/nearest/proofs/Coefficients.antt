@@ -63,15 +63,15 @@ coefficients d (None ∷ ws) hd h e =
     nothing_more s = omega (arith, ints)
 
 -- ---- both parts
-shares-length : (d : ℤ) (ws : List (Option ℤ)) → length (shares_of d ws) ≡ length ws
-shares-length d [] = refl
-shares-length d (Some w ∷ ws) = ap suc (shares-length d ws)
-shares-length d (None ∷ ws) = ap suc (shares-length d ws)
+pub length-shares : (d : ℤ) (ws : List (Option ℤ)) → length (shares_of d ws) ≡ length ws
+length-shares d [] = refl
+length-shares d (Some w ∷ ws) = ap suc (length-shares d ws)
+length-shares d (None ∷ ws) = ap suc (length-shares d ws)
 
-part-length : (d : ℤ) (ws : List (Option ℤ)) → length (part_of d ws) ≡ length ws
-part-length d [] = refl
-part-length d (Some w ∷ ws) = ap suc (shares-length d ws)
-part-length d (None ∷ ws) = ap suc (part-length d ws)
+pub length-part : (d : ℤ) (ws : List (Option ℤ)) → length (part_of d ws) ≡ length ws
+length-part d [] = refl
+length-part d (Some w ∷ ws) = ap suc (length-shares d ws)
+length-part d (None ∷ ws) = ap suc (length-part d ws)
 
 take-front : (xs ys : List ℤ) → take (length xs) (xs ++ ys) ≡ xs
 take-front [] ys = refl
@@ -91,7 +91,7 @@ all_back (x ∷ xs) ys h = all_back xs ys (All-tail IsPositiveIfListed x (xs ++ 
 
 pub of_two_parts : (k : Candidate) → IsValid k → listed_total k.left ≡ k.den → listed_total k.right ≡ k.den → AreOfTwoParts (length k.left) (rounded_weights k)
 of_two_parts k valid e f =
-    let n = part-length k.den k.left in record {
+    let n = length-part k.den k.left in record {
       left = subst AreCoefficients (sym (take-front (part_of k.den k.left) (part_of k.den k.right)) ∙ ap (λ m. take m (rounded_weights k)) n)
           (coefficients k.den k.left valid.divisor (all_front k.left k.right valid.weights) e);
       right = subst AreCoefficients (sym (drop-front (part_of k.den k.left) (part_of k.den k.right)) ∙ ap (λ m. drop m (rounded_weights k)) n)

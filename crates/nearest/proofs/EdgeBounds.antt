@@ -9,7 +9,7 @@ use Rattle.nearest.proofs.Border.{Every, Somewhere}
 use Rattle.nearest.proofs.FootLeads.{Leads, foot_leads, foot_under}
 use Rattle.nearest.proofs.Segment.{Nearest}
 use Rattle.nearest.proofs.Planes.{flat, Reached, IsOutside, border, AreParallel, parallel, still_leads}
-use Rattle.nearest.proofs.TriangleBounds.{negative, turned_difference, nearest_carried, nearest_by, nonneg_by}
+use Rattle.nearest.proofs.TriangleBounds.{negative, turned_difference, nearest_carried, nearest_by, nonneg_by, low_by, second_is, third_is}
 use Rattle.space3.specs.Vectors.{cross_product, difference, dot_product, multiple, origin, squared_length, vector}
 use Rattle.space3.proofs.Combinations.{mixed, same_vector}
 use Rattle.space3.proofs.VectorForms.{at, components, cross, dot, ◌⊕₃◌, ◌⊗₃◌}
@@ -51,14 +51,8 @@ edge_pair = vector (pos 1) (negsuc 0) (pos 0) ∷ vector (pos 0) (pos 1) (pos 0)
 a0_is : (S y z : ℤ) → pos 1 *ℤ S +ℤ negsuc 0 *ℤ y +ℤ pos 0 *ℤ z ≡ S -ℤ y
 a0_is S y z = omega (arith, ints)
 
-a1_is : (S y z : ℤ) → pos 0 *ℤ S +ℤ pos 1 *ℤ y +ℤ pos 0 *ℤ z ≡ y
-a1_is S y z = omega (arith, ints)
-
 b0_is : (S y z : ℤ) → pos 1 *ℤ S +ℤ pos 0 *ℤ y +ℤ negsuc 0 *ℤ z ≡ S -ℤ z
 b0_is S y z = omega (arith, ints)
-
-b1_is : (S y z : ℤ) → pos 0 *ℤ S +ℤ pos 0 *ℤ y +ℤ pos 1 *ℤ z ≡ z
-b1_is S y z = omega (arith, ints)
 
 -- the weights of the common perpendicular, for all, a1 and b1
 abbrev pub inner_weights : V3 → V3 → V3 → V3 → V3
@@ -125,19 +119,19 @@ back_together S y = omega (arith, ints)
 -- on the border an end of one edge against the other is nearest
 nearest_on_border : (a0 a1 b0 b1 w : V3) → Every (λ k. pos 0 ≤ℤ dot_product k w) edge_pair → Somewhere (λ k. dot_product k w ≡ pos 0) edge_pair → EdgesNearest a0 a1 b0 b1 w.x (squared_length (spread a0 a1 b0 b1 w))
 nearest_on_border a0 a1 b0 b1 w inside (inl e) =
-    by_a1 (nearest_by a1 b0 b1 (w.x -ℤ w.z) w.z w.x (spread a0 a1 b0 b1 w) (nonneg_by _ _ (b0_is w.x w.y w.z) inside.1.1.0) (nonneg_by _ _ (b1_is w.x w.y w.z) inside.1.1.1.0) (back_together w.x w.z)
+    by_a1 (nearest_by a1 b0 b1 (w.x -ℤ w.z) w.z w.x (spread a0 a1 b0 b1 w) (nonneg_by _ _ (b0_is w.x w.y w.z) inside.1.1.0) (nonneg_by _ _ (third_is w.x w.y w.z) inside.1.1.1.0) (back_together w.x w.z)
     (side_a1 a0 a1 b0 b1 w (sym (a0_is w.x w.y w.z) ∙ e)))
 nearest_on_border a0 a1 b0 b1 w inside (inr (inl e)) =
-    by_a0 (nearest_by a0 b0 b1 (w.x -ℤ w.z) w.z w.x (spread a0 a1 b0 b1 w) (nonneg_by _ _ (b0_is w.x w.y w.z) inside.1.1.0) (nonneg_by _ _ (b1_is w.x w.y w.z) inside.1.1.1.0) (back_together w.x w.z)
-    (side_a0 a0 a1 b0 b1 w (sym (a1_is w.x w.y w.z) ∙ e)))
+    by_a0 (nearest_by a0 b0 b1 (w.x -ℤ w.z) w.z w.x (spread a0 a1 b0 b1 w) (nonneg_by _ _ (b0_is w.x w.y w.z) inside.1.1.0) (nonneg_by _ _ (third_is w.x w.y w.z) inside.1.1.1.0) (back_together w.x w.z)
+    (side_a0 a0 a1 b0 b1 w (sym (second_is w.x w.y w.z) ∙ e)))
 nearest_on_border a0 a1 b0 b1 w inside (inr (inr (inl e))) =
     by_b1 (subst (λ (z : ℤ). Nearest b1 a0 a1 w.x z) (squared-negative (spread a0 a1 b0 b1 w))
-    (nearest_by b1 a0 a1 (w.x -ℤ w.y) w.y w.x (negative (spread a0 a1 b0 b1 w)) (nonneg_by _ _ (a0_is w.x w.y w.z) inside.0) (nonneg_by _ _ (a1_is w.x w.y w.z) inside.1.0) (back_together w.x w.y)
+    (nearest_by b1 a0 a1 (w.x -ℤ w.y) w.y w.x (negative (spread a0 a1 b0 b1 w)) (nonneg_by _ _ (a0_is w.x w.y w.z) inside.0) (nonneg_by _ _ (second_is w.x w.y w.z) inside.1.0) (back_together w.x w.y)
     (side_b1 a0 a1 b0 b1 w (sym (b0_is w.x w.y w.z) ∙ e))))
 nearest_on_border a0 a1 b0 b1 w inside (inr (inr (inr (inl e)))) =
     by_b0 (subst (λ (z : ℤ). Nearest b0 a0 a1 w.x z) (squared-negative (spread a0 a1 b0 b1 w))
-    (nearest_by b0 a0 a1 (w.x -ℤ w.y) w.y w.x (negative (spread a0 a1 b0 b1 w)) (nonneg_by _ _ (a0_is w.x w.y w.z) inside.0) (nonneg_by _ _ (a1_is w.x w.y w.z) inside.1.0) (back_together w.x w.y)
-    (side_b0 a0 a1 b0 b1 w (sym (b1_is w.x w.y w.z) ∙ e))))
+    (nearest_by b0 a0 a1 (w.x -ℤ w.y) w.y w.x (negative (spread a0 a1 b0 b1 w)) (nonneg_by _ _ (a0_is w.x w.y w.z) inside.0) (nonneg_by _ _ (second_is w.x w.y w.z) inside.1.0) (back_together w.x w.y)
+    (side_b0 a0 a1 b0 b1 w (sym (third_is w.x w.y w.z) ∙ e))))
 nearest_on_border a0 a1 b0 b1 w inside (inr (inr (inr (inr e)))) = absurd e
 
 edges_carried : (a0 a1 b0 b1 : V3) (S dist S' dist' : ℤ) → pos 0 <ℤ S' → (dist' *ℤ (S *ℤ S)) ≤ℤ (dist *ℤ (S' *ℤ S')) → EdgesNearest a0 a1 b0 b1 S' dist' → EdgesNearest a0 a1 b0 b1 S dist
@@ -223,9 +217,6 @@ parallel_edges a0 a1 b0 b1 w hw inside d =
     (subst (λ (g : V3). Leads w.x (pos 0) (spread a0 a1 b0 b1 w) g) (sym still) (still_leads w.x (spread a0 a1 b0 b1 w) (nonneg_of_pos w.x hw)))
     (parallel_outside d.y d.z d.some)
 
-low_by : (a b : ℤ) → a ≡ b → b ≤ℤ pos 0 → a ≤ℤ pos 0
-low_by a b e h = subst (λ (z : ℤ). z ≤ℤ pos 0) (sym e) h
-
 -- one of the nine candidates is a bound at all weights
 pub nearest_of_edges : (a0 a1 b0 b1 w : V3) → pos 0 <ℤ w.x → Every (λ k. pos 0 ≤ℤ dot_product k w) edge_pair → EdgesNearest a0 a1 b0 b1 w.x (squared_length (spread a0 a1 b0 b1 w))
 nearest_of_edges a0 a1 b0 b1 w hw inside =
@@ -240,6 +231,6 @@ nearest_of_edges a0 a1 b0 b1 w hw inside =
     (λ hb0. by_insides d ha0 ha1 hb0 hb1 (inner_under a0 a1 b0 b1 w))
     (λ low. outward d (inr (inr (inl (low_by _ _ (b0_is h.x h.y h.z) low))))))
     (λ low. outward d (inl (low_by _ _ (a0_is h.x h.y h.z) low))))
-    (λ low. outward d (inr (inr (inr (inl (low_by _ _ (b1_is h.x h.y h.z) low)))))))
-    (λ low. outward d (inr (inl (low_by _ _ (a1_is h.x h.y h.z) low)))))
+    (λ low. outward d (inr (inr (inr (inl (low_by _ _ (third_is h.x h.y h.z) low)))))))
+    (λ low. outward d (inr (inl (low_by _ _ (second_is h.x h.y h.z) low)))))
     (λ low. nearest_reached a0 a1 b0 b1 w (parallel_edges a0 a1 b0 b1 w hw inside (parallel (difference a1 a0) (difference b1 b0) low)))

@@ -3,10 +3,10 @@ use Rattle.std.proofs.Common.{◌≡◌, ℕ, ◌+◌, ℤ, pos, ◌-ℤ◌, ◌
 use Rattle.std.proofs.lemmas.Int.{ints}
 use Rattle.std.specs.List.{All, sum}
 use Rattle.std.specs.Prelude.{Option}
-use Rattle.std.proofs.lemmas.List.Sums.{sum_by-cons}
 use Rattle.std.proofs.lemmas.List.Elements.{All-nil, All-cons}
 use Rattle.space3.specs.declared.vectors.V3.{V3}
 use Rattle.whole_laws.proofs.Order.{nonneg_of_pos}
+use Rattle.list_laws.proofs.Sums.{sum_head}
 use Rattle.nearest.specs.Candidates.{Candidate, IsPositiveIfListed, IsValid, IsAtMost}
 use Rattle.nearest.proofs.LowerBounds.{IsUnder, lesser_under}
 use Rattle.nearest.proofs.Segment.{Nearest, by_foot, by_start, by_end}
@@ -61,9 +61,6 @@ three_of (i ∷ []) e = absurd (omega arith)
 three_of (i ∷ j ∷ []) e = absurd (omega arith)
 three_of (i ∷ j ∷ m ∷ []) e = (i, j, m, refl)
 three_of (i ∷ j ∷ m ∷ l ∷ ls) e = absurd (omega arith)
-
-sum_head : (w : ℕ) (ws : List ℕ) → sum (w ∷ ws) ≡ w + sum ws
-sum_head w ws = sum_by-cons (λ x. x) w ws
 
 pub sum_one : (l : ℕ) → sum (l ∷ []) ≡ l
 sum_one l = omega (arith, sum_head l [])

@@ -69,10 +69,10 @@ triangle = vector (pos 1) (negsuc 0) (negsuc 0) ∷ vector (pos 0) (pos 1) (pos 
 rest_is : (S y z : ℤ) → pos 1 *ℤ S +ℤ negsuc 0 *ℤ y +ℤ negsuc 0 *ℤ z ≡ S -ℤ y -ℤ z
 rest_is S y z = omega (arith, ints)
 
-second_is : (S y z : ℤ) → pos 0 *ℤ S +ℤ pos 1 *ℤ y +ℤ pos 0 *ℤ z ≡ y
+pub second_is : (S y z : ℤ) → pos 0 *ℤ S +ℤ pos 1 *ℤ y +ℤ pos 0 *ℤ z ≡ y
 second_is S y z = omega (arith, ints)
 
-third_is : (S y z : ℤ) → pos 0 *ℤ S +ℤ pos 0 *ℤ y +ℤ pos 1 *ℤ z ≡ z
+pub third_is : (S y z : ℤ) → pos 0 *ℤ S +ℤ pos 0 *ℤ y +ℤ pos 1 *ℤ z ≡ z
 third_is S y z = omega (arith, ints)
 
 -- the weights of the point's foot, for all, b and c
@@ -220,7 +220,7 @@ flat_triangle p a b c w hw inside d =
 low_rest : (S y z : ℤ) → (S -ℤ y -ℤ z) ≤ℤ pos 0 → (pos 1 *ℤ S +ℤ negsuc 0 *ℤ y +ℤ negsuc 0 *ℤ z) ≤ℤ pos 0
 low_rest S y z h = omega (arith, ints)
 
-low_by : (a b : ℤ) → a ≡ b → b ≤ℤ pos 0 → a ≤ℤ pos 0
+pub low_by : (a b : ℤ) → a ≡ b → b ≤ℤ pos 0 → a ≤ℤ pos 0
 low_by a b e h = subst (λ (z : ℤ). z ≤ℤ pos 0) (sym e) h
 
 -- one of the seven candidates is a bound at all weights

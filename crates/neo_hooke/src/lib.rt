@@ -2,6 +2,10 @@
 //!
 //! The material is compressible neo-Hookean: for a deformation gradient F with determinant J its energy density is
 //! `mu / 2 · (tr FᵀF − 3) − mu · ln J + lambda / 2 · (ln J)²`. All energies are taken 48 times.
+//!
+//! `rest`: what is kept of a tetrahedron at rest, `element`: with its material, ready for many calls. `strain`: how
+//! it is strained. `energy`, `gradient`: these two. `block`: one block, `blocks`: all sixteen at once. `laws`:
+//! shifts, rest, the sum of the pulls, symmetry.
 #![tactic(auto)]
 
 mod block;

@@ -2,12 +2,12 @@
 use Rattle.std.proofs.Common.{◌≡◌, ℕ, zero, suc, ◌+◌, ◌*◌, ◌<◌, ℤ, pos, negsuc, ◌+ℤ◌, ◌*ℤ◌, ◌<ℤ◌, List, [], ◌∷◌, length, refl, ◌∙◌, ap, arith, ◌⊎◌, inl, inr}
 use Rattle.std.proofs.lemmas.Int.{ints}
 use Rattle.std.specs.List.{All, sum}
-use Rattle.std.proofs.lemmas.List.Sums.{sum_by-cons}
 use Rattle.std.proofs.lemmas.List.Elements.{All-nil, All-cons, All-weaker}
 use Rattle.space3.specs.declared.vectors.V3.{V3}
 use Rattle.space3.specs.Vectors.{origin}
 use Rattle.space3.specs.Weights.{weighted_sum}
 use Rattle.whole_laws.proofs.Ring.{ring, v, ◌⊕◌, ◌⊗◌}
+use Rattle.list_laws.proofs.Sums.{sum_head}
 use Rattle.plane_cut.specs.Planes.{HasPlane, HasWeights}
 use Rattle.space3.proofs.Combinations.{mixed, same_vector}
 use Rattle.plane_cut.proofs.Elimination.{IsClosed, plane_or_zero}
@@ -22,9 +22,6 @@ pub length-mixed : (i j : ℕ) (us ws : List ℕ) → length us ≡ length ws �
 length-mixed i j [] ws e = refl
 length-mixed i j (u ∷ us) [] e = absurd (omega arith)
 length-mixed i j (u ∷ us) (w ∷ ws) e = omega (arith, length-mixed i j us ws (omega arith))
-
-sum_head : (w : ℕ) (ws : List ℕ) → sum (w ∷ ws) ≡ w + sum ws
-sum_head w ws = sum_by-cons (λ x. x) w ws
 
 pub sum-mixed : (i j : ℕ) (us ws : List ℕ) → length us ≡ length ws → sum (mixed_weights i j us ws) ≡ i * sum us + j * sum ws
 sum-mixed i j [] [] e = omega arith

@@ -1,5 +1,8 @@
 //! Whether one plane through the origin leaves a list of vectors strictly on one side, and whether two
 //! convex hulls meet. Both are decided by eliminating one variable after the other.
+//!
+//! `planes`: the elimination of the first variable, `rows` and `cones`: of the second and third. `meeting`: whether
+//! two hulls meet. `laws`: a plane, or weights, and never both.
 #![tactic(auto)]
 
 mod cones;

@@ -1,5 +1,9 @@
 //! The potential that a frame lowers, and its gradient: sums of contributions of nodes, of tetrahedra, of pairs of close
 //! parts of the surface, and of contacts.
+//!
+//! `terms`: the public calls. `inertia`, `bodies`, `barriers`, `friction`: what nodes, tetrahedra, pairs and
+//! contacts give; `contacts`: the contacts of a frame. `pulls`: the sums of the gradient. `matrix`, `blocks`: the
+//! sums of the matrix. `laws`: the matrix is symmetric.
 #![tactic(auto)]
 
 mod barriers;

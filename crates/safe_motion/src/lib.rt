@@ -1,6 +1,10 @@
 //! Straight motion on the whole-number grid: what it means that two parts meet, that a motion is safe,
 //! and the certificates from which it follows. The laws are public functions with empty bodies, whose
 //! contracts are the laws.
+//!
+//! `motion`: points and tetrahedra in motion. `safety`: the main law, that certificates make a step safe.
+//! `pair_laws`, `volume_laws`, `still_laws`: the laws behind it. `depth`: of certificates. `examples`: motions in
+//! small numbers.
 #![tactic(auto)]
 
 mod depth;

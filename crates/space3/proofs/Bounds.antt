@@ -26,6 +26,16 @@ within-difference m n b a d h k l = record { x = each a.x d.x h.x k.x; y = each 
     each : (a d : ℤ) → AtMost m a → AtMost n d → AtMost b (a -ℤ d)
     each a d h k = record { bound = omega (arith, size_diff a d, h.bound, k.bound) }
 
+-- the difference the other way
+pub within-turned : (m : ℕ) (a b : V3) → Within m (difference a b) → Within m (difference b a)
+within-turned m a b h = record { x = each a.x b.x h.x; y = each a.y b.y h.y; z = each a.z b.z h.z }
+  where
+    back : (a b : ℤ) → unsigned_abs (a -ℤ b) ≤ m → unsigned_abs (b -ℤ a) ≤ m
+    back a b h = omega (arith, ints)
+
+    each : (a b : ℤ) → AtMost m (a -ℤ b) → AtMost m (b -ℤ a)
+    each a b h = record { bound = back a b h.bound }
+
 -- a determinant of three vectors: six products of three components
 pub determinant_size : (m b : ℕ) (a d e : V3) → Within m a → Within m d → Within m e → 3 * (m * (m * m + m * m)) ≤ b → AtMost b (determinant a d e)
 determinant_size m b a d e h k l room =

@@ -1,6 +1,9 @@
 //! Vectors of whole numbers with exact products, and tetrahedral meshes.
 //! Each product is the one of unbounded whole numbers, under a bound on the components.
 //! A mesh is seen as three lists: node numbers, places, tetrahedra.
+//!
+//! `vectors`: differences, products, determinants. `boxes`: boxes and gaps. `places`, `ways`: places in the box,
+//! straight ways and halved directions. `spots`: up to four points. `mesh`, `lists`: meshes and their lists.
 #![tactic(auto)]
 
 mod boxes;

@@ -1,5 +1,9 @@
 //! Directions from a sparse matrix and a gradient, in whole numbers: Newton's, by conjugate
 //! gradients of at most 200 turns, where these end; and Jacobi's, which there always is.
+//!
+//! `solve`: the two public calls, `work`, `state`: their arrays. `scale`: the system, in shortened numbers.
+//! `search`, `turn`: turns until the residual is small. `lists`, `numbers`: lists and single numbers of a turn.
+//! `directions`: solutions as directions. `laws`: there is one Newton direction at most.
 #![tactic(auto)]
 
 mod directions;

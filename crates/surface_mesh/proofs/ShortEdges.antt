@@ -7,6 +7,7 @@ use Rattle.std.specs.Prelude.{All, IsTrue, unsigned_abs, nat_le}
 use Rattle.space3.specs.declared.vectors.V3.{V3}
 use Rattle.space3.specs.Vectors.{Within, difference, origin}
 use Rattle.space3.specs.Mesh.{place_of}
+use Rattle.space3.proofs.Bounds.{within-turned}
 use Rattle.surface_mesh.specs.Edges.{edges_of, has_edges_within, is_within}
 use Rattle.std.proofs.lemmas.List.Elements.{All-contains, All-from_recursion, All-map, All-weaker}
 use Rattle.list_laws.proofs.Membership.{Contains-map}
@@ -41,12 +42,6 @@ third_edge_is_within most places nodes h = edges_are_within most places nodes h 
 abbrev pub AreNear : ℕ → List V3 → Type 0
 AreNear most points = All (λ a. All (λ b. Within most (difference a b)) points) points
 
-back : (most : ℕ) (a b : V3) → Within most (difference a b) → Within most (difference b a)
-back most a b h = record { x = record { bound = turned a.x b.x most h.x.bound }; y = record { bound = turned a.y b.y most h.y.bound }; z = record { bound = turned a.z b.z most h.z.bound } }
-  where
-    turned : (m n : ℤ) (most : ℕ) → unsigned_abs (m -ℤ n) ≤ most → unsigned_abs (n -ℤ m) ≤ most
-    turned m n most k = omega (arith, ints)
-
 itself : (most : ℕ) (a : V3) → Within most (difference a a)
 itself most a = record { x = record { bound = none a.x most }; y = record { bound = none a.y most }; z = record { bound = none a.z most } }
   where
@@ -57,11 +52,11 @@ four_near : (most : ℕ) (p q r s : V3) → Within most (difference q p) → Wit
     AreNear most (p ∷ q ∷ r ∷ s ∷ [])
 four_near most p q r s qp rp sp rq sq sr =
     All-from_recursion (λ a. All (λ b. Within most (difference a b)) (p ∷ q ∷ r ∷ s ∷ [])) (p ∷ q ∷ r ∷ s ∷ []) (
-      row p (itself most p) (back most q p qp) (back most r p rp) (back most s p sp),
+      row p (itself most p) (within-turned most q p qp) (within-turned most r p rp) (within-turned most s p sp),
       (
-        row q qp (itself most q) (back most r q rq) (back most s q sq),
+        row q qp (itself most q) (within-turned most r q rq) (within-turned most s q sq),
         (
-          row r rp rq (itself most r) (back most s r sr),
+          row r rp rq (itself most r) (within-turned most s r sr),
           (row s sp sq sr (itself most s), tt),
         ),
       ),

@@ -1,5 +1,9 @@
 //! The bodies of a scene: materials by physical tag, and what a mesh and its materials give each tetrahedron
 //! and each node.
+//!
+//! `materials`, `ranges`: materials and the numbers of a scene. `setup`: the bodies, ready to move, with `shares`
+//! that tetrahedra give their nodes and `lists` of these. `edges`: how long edges are. `sturdy`: what bodies must be
+//! at the start.
 #![tactic(auto)]
 
 mod edges;

@@ -1,15 +1,13 @@
 -- The stack's mesh is sound.
-use Rattle.std.proofs.Common.{◌≡◌, ◌≢◌, ◌∙◌, ℕ, zero, suc, ◌+◌, ◌*◌, ◌<◌, ◌≤◌, pos, Bool, true, false, List, [], ◌∷◌, length, map, get_or, refl, sym, subst, arith, length-append, unsigned_abs}
+use Rattle.std.proofs.Common.{◌≡◌, ◌≢◌, ◌∙◌, ℕ, zero, suc, ◌+◌, ◌*◌, ◌<◌, ◌≤◌, pos, Bool, true, false, List, [], ◌∷◌, length, refl, sym, subst, arith, length-append, unsigned_abs}
 use Rattle.std.specs.Prelude.{◌==◌, All, if◌then◌else◌}
 use Rattle.std.specs.List.{IsDistinct, flat_map, range_with_len}
 use Rattle.std.proofs.lemmas.Bool.Decides.{nat_tests}
-use Rattle.std.proofs.lemmas.List.{length-map}
 use Rattle.std.proofs.lemmas.List.Elements.{All-nil, All-cons, All-map}
 use Rattle.std.proofs.lemmas.List.FromFn.{get_or-range_with_len, length-range_with_len}
 use Rattle.std.proofs.lemmas.Map.Keys.{IsDistinct-from_apart}
 use Rattle.list_laws.proofs.CountedWrites.{All-counted}
 use Rattle.list_laws.proofs.Membership.{All-flat_map}
-use Rattle.space3.specs.declared.lists.Tet.{Tet}
 use Rattle.space3.specs.Mesh.{IsNumber, IsSound, IsSoundTet}
 use Rattle.work_gen.specs.Stack.{block_places, block_tet, block_tets, stack_mesh}
 

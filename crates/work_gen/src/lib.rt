@@ -1,4 +1,6 @@
 //! The stated stack: a scene and a mesh of so many blocks, made without a file.
+//!
+//! `stack`: the stack as a scene and a mesh. `blocks`: its blocks.
 #![tactic(auto)]
 
 mod blocks;

@@ -1,6 +1,6 @@
-use Rattle.std.proofs.Common.{◌≡◌, [], ◌∷◌, length}
+use Rattle.std.proofs.Common.{[], ◌∷◌}
 use Rattle.report_text.specs.declared.line.Line.TheVariants as lines
-use Rattle.ipc_top.specs.Acts.{Act, Say}
+use Rattle.ipc_top.specs.Acts.{Say}
 use Rattle.ipc_top.specs.Moves.{first_start}
 use Rattle.ipc_top.specs.Calls.Jobs.{job_of}
 use Rattle.ipc_top.proofs.ActsDone.{does_then, does_same, stops_then}

@@ -1,5 +1,4 @@
-use Rattle.std.proofs.Common.{Some, None, refl, sym}
-use Rattle.std.specs.Prelude.{IfNone, IfSome}
+use Rattle.std.proofs.Common.{refl, sym}
 use Rattle.mesh_check.specs.Defects.{Flawed, Meeting, Sound}
 use Rattle.mesh_check.proofs.StandingPairs.{found_is_pair, parts_apart}
 use Rattle.mesh_check.proofs.defects.first_defect.Goals as goal

@@ -1,8 +1,4 @@
-use Rattle.std.proofs.Common.{◌∙◌, subst}
-use Rattle.std.specs.Prelude.{All, IfNone, IfSome}
-use Rattle.list_laws.specs.Firsts.{IsFirstOf}
-use Rattle.boundary.specs.declared.pairs.Pair.{Pair}
-use Rattle.mesh_check.specs.Defects.{PartsMeet}
+use Rattle.std.proofs.Common.{◌∙◌}
 use Rattle.mesh_check.proofs.StandingPairs.{first_in_order, none_in_order, touching_are_pairs}
 use Rattle.mesh_check.proofs.meeting.first_meeting.Goals as goal
 

@@ -1,5 +1,4 @@
-use Rattle.std.proofs.Common.{◌≡◌, ℕ, ◌∷◌, ◌++◌, ◌∙◌, ap, rules}
-use Rattle.std.specs.Prelude.{decimal}
+use Rattle.std.proofs.Common.{◌≡◌, ◌∷◌, ◌++◌, rules}
 use Rattle.dec_text.specs.GridText.{grid_decimal}
 use Rattle.msh_text.proofs.Growth.{begins_before, begins_itself, on_err}
 use Rattle.msh_text.proofs.FrameLines.{node_line}

@@ -1,4 +1,4 @@
-use Rattle.std.proofs.Common.{◌≡◌, ℕ, ◌∷◌, ◌++◌, ◌∙◌, ap, length, rules}
+use Rattle.std.proofs.Common.{◌≡◌, ◌∷◌, ◌++◌, length, rules}
 use Rattle.std.specs.Prelude.{decimal, map}
 use Rattle.std.specs.Fmt.{signed_decimal}
 use Rattle.msh_text.specs.Frame.{spaced}

@@ -1,4 +1,4 @@
-use Rattle.std.proofs.Common.{rules, ◌≡◌, ◌∙◌, true, false, length, length-append, sym}
+use Rattle.std.proofs.Common.{rules, ◌≡◌, false, length, length-append, sym}
 use Rattle.std.proofs.lemmas.Slice.Zip.{zip_turn, zip_end}
 use Rattle.space3.specs.Vectors.{origin}
 use Rattle.report_text.specs.Traces.{is_zero}

@@ -1,4 +1,4 @@
-use Rattle.std.proofs.Common.{◌∙◌, ◌++◌, ◌∷◌, [], sym, arith, ◌≡◌, ℕ, ◌+◌}
+use Rattle.std.proofs.Common.{◌∙◌, ◌++◌, ◌∷◌, [], sym, arith, ◌+◌}
 use Rattle.list_laws.proofs.Pushes.{range_more}
 use Rattle.work_gen.proofs.blocks.node_numbers.Goals as goal
 

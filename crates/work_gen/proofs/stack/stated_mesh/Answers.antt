@@ -1,4 +1,4 @@
-use Rattle.std.proofs.Common.{◌∙◌, length, ap, arith}
+use Rattle.std.proofs.Common.{length, ap, arith}
 use Rattle.work_gen.proofs.Soundness.{length-places}
 use Rattle.work_gen.proofs.stack.stated_mesh.Goals as goal
 
