@@ -1,12 +1,13 @@
-//! Boxes near another one, found by a uniform grid: for each box the positions of some others, among them of all whose
-//! gap to it is small. A filter of these keeps what a filter of all positions keeps, where only near boxes pass.
+//! Boxes near another one, found by a uniform grid: for each box the positions of exactly those others whose gap to it is
+//! small.
 #![tactic(auto)]
 
 mod cells;
 mod entries;
 mod grid;
 mod limits;
+mod search;
 mod sizes;
 
-pub use grid::{BoxGrid, candidates_pass_as_all_positions};
+pub use grid::BoxGrid;
 pub use limits::REACH_LIMIT;
