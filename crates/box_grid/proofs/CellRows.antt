@@ -9,7 +9,8 @@ use Rattle.space3.specs.declared.boxes.BoundingBox.{BoundingBox}
 use Rattle.box_grid.specs.declared.cells.Cells.{Cells}
 use Rattle.box_grid.specs.declared.entries.Entry.{Entry}
 use Rattle.box_grid.specs.declared.sizes.Level.{Level}
-use Rattle.box_grid.specs.Calls.Cells.{box_at, cells_over, entries_in, entries_of, entries_of_boxes, entry, has, key_of, row_of, run_of}
+use Rattle.box_grid.specs.Near.{box_at}
+use Rattle.box_grid.specs.Calls.Cells.{cells_over, entries_in, entries_of, entries_of_boxes, entry, has, key_of, row_of, run_of}
 
 pub in_range : (n k : ℕ) → k < n → Contains (range_with_len 0 n) k
 in_range n k h = (k, omega (arith, length-range_with_len 0 n), get_or-range_with_len 0 n k k h ∙ zero-add k)
@@ -46,8 +47,8 @@ items_below level boxes =
     (λ k d h.
     let i = get_or (range_with_len 0 (length boxes)) k d in
     let low : i < length boxes = omega (arith, get_or-range_with_len 0 (length boxes) k d (omega (arith, length-range_with_len 0 (length boxes))), length-range_with_len 0 (length boxes)) in
-    where_had (has level (box_at boxes i)) (entries_of (cells_over level.side 0 (box_at boxes i)) i) (length boxes)
-    (items_of_cells (cells_over level.side 0 (box_at boxes i)) i (length boxes) low))
+    where_had (has level (box_at boxes i)) (entries_of (cells_over level.side (box_at boxes i)) i) (length boxes)
+    (items_of_cells (cells_over level.side (box_at boxes i)) i (length boxes) low))
   where
     where_had : (t : Bool) (es : List Entry) (n : ℕ) → All (λ (e : Entry). e.item < n) es → All (λ (e : Entry). e.item < n) (if t then es else [])
     where_had true es n h = h

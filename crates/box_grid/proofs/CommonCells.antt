@@ -1,4 +1,4 @@
--- Two boxes that are near have a common cell, when the first one's corners are moved apart by the reach.
+-- Two boxes that have a common point have a common cell.
 use Rattle.std.proofs.Common.{◌≡◌, if◌then◌else◌, ◌∙◌, ℕ, true, ◌+◌, ◌-◌, ◌*◌, ◌/◌, ◌<◌, ◌≤◌, max, min, ℤ, pos, ◌+ℤ◌, ◌-ℤ◌, ◌≤ℤ◌, unsigned_abs, List, [], length, ap, sym, subst, arith}
 use Rattle.std.specs.Prelude.{IsTrue}
 use Rattle.std.specs.List.{range_with_len, All, Contains}
@@ -7,7 +7,6 @@ use Rattle.std.proofs.lemmas.Int.{ints}
 use Rattle.std.proofs.lemmas.Nat.{le-div, div-add-mod'}
 use Rattle.list_laws.proofs.Membership.{Contains-flat_map}
 use Rattle.space3.specs.Vectors.{AtMost, origin}
-use Rattle.space3.specs.Boxes.{are_within}
 use Rattle.space3.specs.declared.boxes.BoundingBox.{BoundingBox}
 use Rattle.space3.specs.declared.places.TheConstants.{BOX_LIMIT}
 use Rattle.space3.proofs.BoxLemmas.{gap_parts}
@@ -15,9 +14,10 @@ use Rattle.box_grid.specs.declared.cells.Cells.{Cells}
 use Rattle.box_grid.specs.declared.entries.Entry.{Entry}
 use Rattle.box_grid.specs.declared.sizes.Level.{Level}
 use Rattle.box_grid.specs.declared.limits.TheConstants.{AXIS_LIMIT, LEAST_SIDE, REACH_LIMIT}
-use Rattle.box_grid.specs.Candidates.{LiesInTheBox}
-use Rattle.box_grid.specs.Calls.Cells.{box_at, cell_of, cells_over, entries_in, entries_of, entries_of_boxes, entry, has, key_of, row_of}
+use Rattle.box_grid.specs.Near.{LiesInTheBox, box_at}
+use Rattle.box_grid.specs.Calls.Cells.{LiesByTheBox, cell_of, cells_over, entries_in, entries_of, entries_of_boxes, entry, has, key_of, row_of, touches}
 use Rattle.box_grid.proofs.CellRows.{entry_of_cell, in_range, key_along_row, row_of_cell}
+use Rattle.box_grid.proofs.WideBoxes.{by_the_box}
 
 -- a division by a side doesn't turn the order
 div_keeps_order : (a b side : ℕ) → 0 < side → a ≤ b → a / side ≤ b / side
@@ -41,23 +41,20 @@ record Common (a many_a b many_b : ℕ) : Type 0 where
 common : (la ha lb hb : ℕ) → la ≤ hb → lb ≤ ha → Common (min la ha) (max la ha - min la ha + 1) (min lb hb) (max lb hb - min lb hb + 1)
 common la ha lb hb c d = record { cell = max (min la ha) (min lb hb); from_a = omega arith; below_a = omega arith; from_b = omega arith; below_b = omega arith }
 
-not_negative : (z : ℤ) (reach : ℕ) → AtMost BOX_LIMIT z → reach ≤ REACH_LIMIT → pos 0 ≤ℤ ((z -ℤ pos reach) +ℤ pos AXIS_LIMIT)
-not_negative z reach h m = omega (arith, ints, h.bound)
+not_negative : (z : ℤ) → AtMost (BOX_LIMIT + REACH_LIMIT) z → pos 0 ≤ℤ (z +ℤ pos AXIS_LIMIT)
+not_negative z h = omega (arith, ints, h.bound)
 
 -- along an axis
-along : (side reach : ℕ) (al ag bl bg : ℤ) → 0 < side → reach ≤ REACH_LIMIT → AtMost BOX_LIMIT al → AtMost BOX_LIMIT bl → (bl -ℤ ag) ≤ℤ pos reach → (al -ℤ bg) ≤ℤ pos reach →
-    Common (min (cell_of side (al -ℤ pos reach)) (cell_of side (ag +ℤ pos reach))) (max (cell_of side (al -ℤ pos reach)) (cell_of side (ag +ℤ pos reach)) - min (cell_of side (al -ℤ pos reach)) (cell_of side (ag +ℤ pos reach)) + 1)
-    (min (cell_of side (bl -ℤ pos 0)) (cell_of side (bg +ℤ pos 0))) (max (cell_of side (bl -ℤ pos 0)) (cell_of side (bg +ℤ pos 0)) - min (cell_of side (bl -ℤ pos 0)) (cell_of side (bg +ℤ pos 0)) + 1)
-along side reach al ag bl bg s m a b far near =
-    common (cell_of side (al -ℤ pos reach)) (cell_of side (ag +ℤ pos reach)) (cell_of side (bl -ℤ pos 0)) (cell_of side (bg +ℤ pos 0))
-    (cell_keeps_order side (al -ℤ pos reach) (bg +ℤ pos 0) s (not_negative al reach a m) (lower al bg reach near))
-    (cell_keeps_order side (bl -ℤ pos 0) (ag +ℤ pos reach) s (not_negative bl 0 b (omega arith)) (upper bl ag reach far))
+along : (side : ℕ) (al ag bl bg : ℤ) → 0 < side → AtMost (BOX_LIMIT + REACH_LIMIT) al → AtMost (BOX_LIMIT + REACH_LIMIT) bl → (bl -ℤ ag) ≤ℤ pos 0 → (al -ℤ bg) ≤ℤ pos 0 →
+    Common (min (cell_of side al) (cell_of side ag)) (max (cell_of side al) (cell_of side ag) - min (cell_of side al) (cell_of side ag) + 1)
+    (min (cell_of side bl) (cell_of side bg)) (max (cell_of side bl) (cell_of side bg) - min (cell_of side bl) (cell_of side bg) + 1)
+along side al ag bl bg s a b before after =
+    common (cell_of side al) (cell_of side ag) (cell_of side bl) (cell_of side bg)
+    (cell_keeps_order side al bg s (not_negative al a) (no_gap al bg after))
+    (cell_keeps_order side bl ag s (not_negative bl b) (no_gap bl ag before))
   where
-    lower : (a b : ℤ) (reach : ℕ) → (a -ℤ b) ≤ℤ pos reach → (a -ℤ pos reach) ≤ℤ (b +ℤ pos 0)
-    lower a b reach h = omega (arith, ints)
-
-    upper : (b a : ℤ) (reach : ℕ) → (b -ℤ a) ≤ℤ pos reach → (b -ℤ pos 0) ≤ℤ (a +ℤ pos reach)
-    upper b a reach h = omega (arith, ints)
+    no_gap : (a b : ℤ) → (a -ℤ b) ≤ℤ pos 0 → a ≤ℤ b
+    no_gap a b h = omega (arith, ints)
 
 -- an entry of the item in a row of the cells
 pub record EntryInRows (entries : List Entry) (c : Cells) (item : ℕ) : Type 0 where
@@ -82,28 +79,28 @@ entry_of_common_cell a b item cx cy cz =
       below = omega (arith, row.2, e, cz.below_a, cz.from_a);
     }
 
--- a box that is near has an entry in a row of the cells
-pub entry_of_near_box : (level : Level) (reach : ℕ) (around : BoundingBox) (boxes : List BoundingBox) (item : ℕ) → LEAST_SIDE ≤ level.side → reach ≤ REACH_LIMIT → LiesInTheBox around → All LiesInTheBox boxes → item < length boxes → IsTrue (are_within reach around (box_at boxes item)) → has level (box_at boxes item) ≡ true →
-    EntryInRows (entries_of_boxes level boxes) (cells_over level.side reach around) item
-entry_of_near_box level reach a boxes item s m h all below near had =
+-- a box that touches has an entry in a row of the cells
+pub entry_of_touching_box : (level : Level) (reached : BoundingBox) (boxes : List BoundingBox) (item : ℕ) → LEAST_SIDE ≤ level.side → LiesByTheBox reached → All LiesInTheBox boxes → item < length boxes → IsTrue (touches reached boxes item) → has level (box_at boxes item) ≡ true →
+    EntryInRows (entries_of_boxes level boxes) (cells_over level.side reached) item
+entry_of_touching_box level a boxes item s h all below touch had =
     let side = level.side in
     let b = box_at boxes item in
-    let other : LiesInTheBox b = all item (record { least = origin; greatest = origin }) below in
-    let outer = and_parts _ _ near in
+    let other : LiesByTheBox b = by_the_box b (all item (record { least = origin; greatest = origin }) below) in
+    let outer = and_parts _ _ touch in
     let inner = and_parts _ _ outer.0 in
-    let x = gap_parts reach a.least.x a.greatest.x b.least.x b.greatest.x inner.0 in
-    let y = gap_parts reach a.least.y a.greatest.y b.least.y b.greatest.y inner.1 in
-    let z = gap_parts reach a.least.z a.greatest.z b.least.z b.greatest.z outer.1 in
-    let f = entry_of_common_cell (cells_over side reach a) (cells_over side 0 b) item
-    (along side reach a.least.x a.greatest.x b.least.x b.greatest.x (omega arith) m h.least.x other.least.x x.0 x.1)
-    (along side reach a.least.y a.greatest.y b.least.y b.greatest.y (omega arith) m h.least.y other.least.y y.0 y.1)
-    (along side reach a.least.z a.greatest.z b.least.z b.greatest.z (omega arith) m h.least.z other.least.z z.0 z.1) in
+    let x = gap_parts 0 a.least.x a.greatest.x b.least.x b.greatest.x inner.0 in
+    let y = gap_parts 0 a.least.y a.greatest.y b.least.y b.greatest.y inner.1 in
+    let z = gap_parts 0 a.least.z a.greatest.z b.least.z b.greatest.z outer.1 in
+    let f = entry_of_common_cell (cells_over side a) (cells_over side b) item
+    (along side a.least.x a.greatest.x b.least.x b.greatest.x (omega arith) h.least.x other.least.x x.0 x.1)
+    (along side a.least.y a.greatest.y b.least.y b.greatest.y (omega arith) h.least.y other.least.y y.0 y.1)
+    (along side a.least.z a.greatest.z b.least.z b.greatest.z (omega arith) h.least.z other.least.z z.0 z.1) in
     record {
       row = f.row;
       within = f.within;
       key = f.key;
       there = Contains-flat_map (λ i. entries_in level (box_at boxes i) i) (range_with_len 0 (length boxes)) item (entry f.key item) (in_range (length boxes) item below)
-          (subst (λ t. Contains (if t then entries_of (cells_over side 0 b) item else []) (entry f.key item)) (sym had) f.there);
+          (subst (λ t. Contains (if t then entries_of (cells_over side b) item else []) (entry f.key item)) (sym had) f.there);
       from = f.from;
       below = f.below;
     }

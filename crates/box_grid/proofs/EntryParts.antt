@@ -1,13 +1,14 @@
 -- What the parts of a sorted list of entries have.
-use Rattle.std.proofs.Common.{◌≡◌, ◌∙◌, ℕ, ◌+◌, ◌-◌, ◌<◌, ◌≤◌, List, ◌++◌, map, take, drop, length, get_or, ap, sym, arith, inl, inr, subst, length-drop, length-take}
-use Rattle.std.specs.List.{All, Contains}
+use Rattle.std.proofs.Common.{◌≡◌, ◌∙◌, ℕ, Bool, ◌+◌, ◌-◌, ◌<◌, ◌≤◌, List, ◌++◌, map, take, drop, length, get_or, ap, sym, arith, inl, inr, subst, length-drop, length-take}
+use Rattle.std.specs.List.{All, Contains, filter}
 use Rattle.std.proofs.lemmas.List.{get_or-take, get_or-drop}
-use Rattle.std.proofs.lemmas.List.Elements.{All-append, All-map, Contains-append_left, Contains-append_right}
+use Rattle.std.proofs.lemmas.List.Elements.{All-append, All-filter, All-map, Contains-append_left, Contains-append_right, filter_passes}
 use Rattle.std.proofs.lemmas.Bool.{cases_lt}
-use Rattle.list_laws.proofs.Membership.{Contains-map}
+use Rattle.list_laws.proofs.Membership.{Contains-filter, Contains-map}
+use Rattle.space3.specs.declared.boxes.BoundingBox.{BoundingBox}
 use Rattle.box_grid.specs.declared.cells.Cells.{Cells}
 use Rattle.box_grid.specs.declared.entries.Entry.{Entry}
-use Rattle.box_grid.specs.Calls.Cells.{HasAllRows, HasRows, row_of}
+use Rattle.box_grid.specs.Calls.Cells.{HasAllRows, HasRows, PassesBelow, row_of, touches}
 
 -- the entries from the place i on, up to the place j after it
 pub in_part : (es : List Entry) (first past i j : ℕ) → ((k : ℕ) (d : Entry) → k < i → (get_or es k d).key < first) → ((k : ℕ) (d : Entry) → j ≤ k → k < length (drop i es) → past ≤ (get_or (drop i es) k d).key) → (e : Entry) → Contains es e → first ≤ e.key → e.key < past → Contains (take j (drop i es)) e
@@ -20,30 +21,53 @@ in_part es first past i j rest from e (k, l, is) lo hi =
     (k - i, omega (arith, length-take j (drop i es)), get_or-take j (drop i es) (k - i) e before ∙ there)
 
 -- no row
-pub HasRows_none : (entries : List Entry) (c : Cells) (old : List ℕ) → HasRows entries c 0 old old
-HasRows_none entries c old = record {
+pub HasRows_none : (p : ℕ → Bool) (entries : List Entry) (c : Cells) (old : List ℕ) → HasRows p entries c 0 old old
+HasRows_none p entries c old = record {
   kept = λ x h. h;
-  has = λ r e l there lo hi. absurd (omega (arith, l));
+  has = λ r e l there lo hi t. absurd (omega (arith, l));
   only = λ n all below. below;
 }
 
--- entries, cells and lists that are known to be others
-pub HasAllRows_as : (es entries : List Entry) (c cells : Cells) (old start found : List ℕ) → es ≡ entries → c ≡ cells → old ≡ start → HasAllRows es c old found → HasAllRows entries cells start found
-HasAllRows_as es entries c cells old start found e f g h =
-    subst (λ xs. HasAllRows xs cells start found) e (subst (λ k. HasAllRows es k start found) f (subst (λ ns. HasAllRows es c ns found) g h))
+-- no entry
+pub HasAllRows_none : (p : ℕ → Bool) (entries : List Entry) (c : Cells) (old : List ℕ) → length entries ≡ 0 → HasAllRows p entries c old old
+HasAllRows_none p entries c old none = record {
+  kept = λ x h. h;
+  has = λ r e l there lo hi t. absurd (omega (arith, there.1, none));
+  only = λ n all below. below;
+}
+
+-- boxes, entries, cells and lists that are known to be others
+pub HasAllRows_as : (reached : BoundingBox) (inner boxes : List BoundingBox) (es entries : List Entry) (c cells : Cells) (old start found : List ℕ) → inner ≡ boxes → es ≡ entries → c ≡ cells → old ≡ start → HasAllRows (touches reached inner) es c old found → HasAllRows (touches reached boxes) entries cells start found
+HasAllRows_as reached inner boxes es entries c cells old start found d e f g h =
+    subst (λ bs. HasAllRows (touches reached bs) entries cells start found) d (subst (λ xs. HasAllRows (touches reached inner) xs cells start found) e (subst (λ k. HasAllRows (touches reached inner) es k start found) f (subst (λ ns. HasAllRows (touches reached inner) es c ns found) g h)))
+
+-- the items of a part that pass
+abbrev pub passing_items : (ℕ → Bool) → List Entry → List ℕ
+passing_items p part = filter p (map (λ (e : Entry). e.item) part)
+
+passing_below : (n : ℕ) (p : ℕ → Bool) (items : List ℕ) → All (λ i. i < n) items → All (PassesBelow n p) (filter p items)
+passing_below n p items below = λ k d l. record {
+  below = All-filter p (λ i. i < n) items below k d l;
+  passes = filter_passes p items k d l;
+}
 
 -- one row more
-pub HasRows_more : (entries : List Entry) (c : Cells) (row : ℕ) (part : List Entry) (old found new : List ℕ) → HasRows entries c row old found → ((e : Entry) → Contains entries e → row_of c row ≤ e.key → e.key < row_of c row + c.height → Contains part e) → ((n : ℕ) → All (λ (e : Entry). e.item < n) entries → All (λ (e : Entry). e.item < n) part) → new ≡ found ++ map (λ e. e.item) part → HasRows entries c (row + 1) old new
-HasRows_more entries c row part old found new h has only is = record {
-  kept = λ x m. subst (λ (ns : List ℕ). Contains ns x) (sym is) (Contains-append_left found (map (λ (e : Entry). e.item) part) x (h.kept x m));
-  has = λ r e l there lo hi.
+pub HasRows_more : (p : ℕ → Bool) (entries : List Entry) (c : Cells) (row : ℕ) (part : List Entry) (old found new : List ℕ) → HasRows p entries c row old found → ((e : Entry) → Contains entries e → row_of c row ≤ e.key → e.key < row_of c row + c.height → Contains part e) → ((n : ℕ) → All (λ (e : Entry). e.item < n) entries → All (λ (e : Entry). e.item < n) part) → new ≡ found ++ passing_items p part → HasRows p entries c (row + 1) old new
+HasRows_more p entries c row part old found new h has only is = record {
+  kept = λ x m. subst (λ (ns : List ℕ). Contains ns x) (sym is) (Contains-append_left found (passing_items p part) x (h.kept x m));
+  has = λ r e l there lo hi t.
       subst (λ (ns : List ℕ). Contains ns e.item) (sym is)
       (elim (cases_lt r row) [
-        | inl b ↦ Contains-append_left found (map (λ x. x.item) part) e.item (h.has r e b there lo hi)
+        | inl b ↦ Contains-append_left found (passing_items p part) e.item (h.has r e b there lo hi t)
         | inr b ↦ let same : r ≡ row = omega arith in
-            Contains-append_right found (map (λ x. x.item) part) e.item (Contains-map (λ x. x.item) part e (has e there (subst (λ m. row_of c m ≤ e.key) same lo) (subst (λ m. e.key < row_of c m + c.height) same hi)))
+            Contains-append_right found (passing_items p part) e.item
+            (Contains-filter p (map (λ (x : Entry). x.item) part) e.item t
+            (Contains-map (λ x. x.item) part e (has e there (subst (λ m. row_of c m ≤ e.key) same lo) (subst (λ m. e.key < row_of c m + c.height) same hi))))
       ]);
-  only = λ n all below. subst (λ ns. All (λ i. i < n) ns) (sym is) (All-append (λ i. i < n) found (map (λ x. x.item) part) (h.only n all below) (All-map (λ i. i < n) (λ (x : Entry). x.item) part (only n all)));
+  only = λ n all below.
+      subst (All (PassesBelow n p)) (sym is)
+      (All-append (PassesBelow n p) found (passing_items p part) (h.only n all below)
+      (passing_below n p (map (λ (x : Entry). x.item) part) (All-map (λ i. i < n) (λ (x : Entry). x.item) part (only n all))));
 }
 
 pub in_part_of : (es rest part : List Entry) (first past i j : ℕ) → rest ≡ drop i es → part ≡ take j rest → ((k : ℕ) (d : Entry) → k < i → (get_or es k d).key < first) → ((k : ℕ) (d : Entry) → j ≤ k → k < length rest → past ≤ (get_or rest k d).key) → (e : Entry) → Contains es e → first ≤ e.key → e.key < past → Contains part e

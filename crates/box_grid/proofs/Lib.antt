@@ -2,6 +2,7 @@ pub mod AppendedLists
 pub mod CellRows
 pub mod CommonCells
 pub mod EntryParts
+pub mod NearPositions
 pub mod SameFilter
-pub mod Service
 pub mod Sides
+pub mod WideBoxes

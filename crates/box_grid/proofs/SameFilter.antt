@@ -1,10 +1,11 @@
--- A rising list that has each number below n that passes a test keeps, at that test, what the numbers below n keep.
+-- A rising list of the numbers below n that pass a test is the filter of the numbers below n.
 use Rattle.std.proofs.Common.{◌≡◌, ◌∙◌, ℕ, suc, zero, ◌+◌, ◌<◌, ◌≤◌, Bool, true, false, cond, List, [], ◌∷◌, get_or, ap, sym, refl, arith, inl, inr}
 use Rattle.std.specs.List.{range_with_len, filter, All, AllPairs, Contains}
 use Rattle.std.specs.List.Sorted.{IsStrictlyIncreasing}
 use Rattle.std.proofs.lemmas.List.Kept.{AllPairs-from_increasing}
 use Rattle.std.proofs.lemmas.List.Elements.{All-tail, All-nil}
 use Rattle.std.proofs.lemmas.Bool.{cases_lt, cases_Bool}
+use Rattle.box_grid.specs.Calls.Cells.{PassesBelow}
 
 -- rising numbers from `low` on and below `high`
 record Rising (low high : ℕ) (xs : List ℕ) : Type 0 where
@@ -67,10 +68,20 @@ same_filter_from p (suc n) a (x ∷ xs) r h =
     above a high x xs r l zero d m = omega arith
     above a high x xs r l (suc k) d m = let up : x < get_or xs k d = r.rises zero (suc k) d (omega arith) (omega arith) in omega arith
 
-pub same_filter : (p : ℕ → Bool) (n : ℕ) (xs : List ℕ) → IsStrictlyIncreasing xs → All (λ x. x < n) xs → ((b : ℕ) → b < n → p b ≡ true → Contains xs b) → filter p xs ≡ filter p (range_with_len 0 n)
+same_filter : (p : ℕ → Bool) (n : ℕ) (xs : List ℕ) → IsStrictlyIncreasing xs → All (λ x. x < n) xs → ((b : ℕ) → b < n → p b ≡ true → Contains xs b) → filter p xs ≡ filter p (range_with_len 0 n)
 same_filter p n xs r l h =
     same_filter_from p n 0 xs (record {
       rises = AllPairs-from_increasing xs r;
       from = λ k d m. omega arith;
       below = λ k d m. omega (arith, l k d m);
     }) (λ b k m t. h b (omega arith) t)
+
+-- where all of them pass, that is the list itself
+all_pass : (p : ℕ → Bool) (xs : List ℕ) → All (λ x. p x ≡ true) xs → filter p xs ≡ xs
+all_pass p [] h = refl
+all_pass p (x ∷ xs) h = ap (λ b. cond b (x ∷ filter p xs) (filter p xs)) (h zero x (omega arith)) ∙ ap (λ l. x ∷ l) (all_pass p xs (All-tail (λ y. p y ≡ true) x xs h))
+
+pub is_filter : (p : ℕ → Bool) (n : ℕ) (xs : List ℕ) → IsStrictlyIncreasing xs → All (PassesBelow n p) xs → ((b : ℕ) → b < n → p b ≡ true → Contains xs b) → xs ≡ filter p (range_with_len 0 n)
+is_filter p n xs r l h =
+    sym (all_pass p xs (λ k d m. (l k d m).passes))
+    ∙ same_filter p n xs r (λ k d m. (l k d m).below) h

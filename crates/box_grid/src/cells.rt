@@ -3,8 +3,8 @@ ghost use Rattle.std.specs.Prelude.{◌≡◌, ◌+◌, ◌-◌, ◌*◌, ◌^�
 ghost use Rattle.space3.specs.declared.places.TheConstants.{BOX_LIMIT};
 ghost use Rattle.space3.specs.Vectors.{AtMost, Within};
 ghost use Rattle.space3.specs.Box.{IsInTheBox};
-ghost use Rattle.box_grid.specs.Candidates.{LiesInTheBox};
-ghost use Rattle.box_grid.specs.Calls.Cells.{AreCells, IsCell, cell_at, cell_of, cells_between, cells_over, key_of, lowered, raised, row_of};
+ghost use Rattle.box_grid.specs.Near.{LiesInTheBox};
+ghost use Rattle.box_grid.specs.Calls.Cells.{AreCells, IsCell, LiesByTheBox, cell_at, cell_of, cells_between, cells_over, key_of, lowered, raised, row_of, widened};
 
 use crate::limits::{AXIS_LIMIT, LEAST_SIDE, REACH_LIMIT};
 use space3::{BoundingBox, V3};
@@ -28,17 +28,27 @@ pub(crate) struct Cells {
     pub height: u64,
 }
 
-/// The cells between those of the two corners of a box, moved apart by the reach.
-pub(crate) fn cells_over(side: u64, reach: u32, around: &BoundingBox) -> Cells
-    requires side { LEAST_SIDE ≤ side }
+/// The box with its corners moved apart by the reach.
+pub(crate) fn widened(around: &BoundingBox, reach: u32) -> BoundingBox
     requires in_box { LiesInTheBox around.now }
     requires reach { reach ≤ REACH_LIMIT }
-    ensures value { result ≡ cells_over side reach around.now }
+    ensures value { result ≡ widened reach around.now }
+    ensures by_box { LiesByTheBox result }
+{
+    BoundingBox {
+        least: lowered(around.least, reach),
+        greatest: raised(around.greatest, reach),
+    }
+}
+
+/// The cells between those of the two corners of a box.
+pub(crate) fn cells_over(side: u64, around: &BoundingBox) -> Cells
+    requires side { LEAST_SIDE ≤ side }
+    requires by_box { LiesByTheBox around.now }
+    ensures value { result ≡ cells_over side around.now }
     ensures within { AreCells result }
 {
-    let first = cell_at(side, lowered(around.least, reach));
-    let last = cell_at(side, raised(around.greatest, reach));
-    cells_between(first, last)
+    cells_between(cell_at(side, around.least), cell_at(side, around.greatest))
 }
 
 /// How many rows of cells there are.

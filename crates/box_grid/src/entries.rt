@@ -1,12 +1,10 @@
 //! Entries of the cells that boxes cover, sorted by the cells' keys.
-ghost use Rattle.std.specs.Prelude.{◌≡◌, ◌+◌, ◌*◌, ◌^◌, ◌<◌, ◌≤◌, ◌++◌, ℕ, IfOk, length, map, All, slice_index_or};
-ghost use Rattle.std.specs.List.{Contains, range_with_len};
-ghost use Rattle.std.specs.List.Sorted.{IsNonDecreasingBy, IsPermutation, IsStrictlyIncreasing};
+ghost use Rattle.std.specs.Prelude.{◌≡◌, ◌^◌, ◌<◌, ◌≤◌, ◌++◌, IfOk, length, All};
+ghost use Rattle.std.specs.List.Sorted.{IsNonDecreasingBy, IsPermutation};
 ghost use Rattle.space3.specs.declared.boxes.BoundingBox.{BoundingBox};
-ghost use Rattle.box_grid.specs.declared.entries.Entry.{Entry};
 ghost use Rattle.box_grid.specs.declared.sizes.Level.{Level};
-ghost use Rattle.box_grid.specs.Candidates.{LiesInTheBox};
-ghost use Rattle.box_grid.specs.Calls.Cells.{AreCells, HasAllRows, IsLevel, entries_in, entries_of, entries_of_boxes, row_of, run_of};
+ghost use Rattle.box_grid.specs.Near.{LiesInTheBox};
+ghost use Rattle.box_grid.specs.Calls.Cells.{AreCells, IsLevel, entries_in, entries_of, entries_of_boxes, run_of};
 
 use crate::cells::{Cells, cells_over, row_count, row_of};
 use crate::limits::{AXIS_LIMIT, LEAST_SIDE};
@@ -35,45 +33,6 @@ pub(crate) fn entries_of_boxes(
     let mut entries = unsorted_entries(alloc, level, boxes)?;
     sort_by_key(&mut entries);
     Ok(entries)
-}
-
-/// Appends the items of the entries of these cells to `found`, in any order.
-pub(crate) fn append_items_over(
-    entries: &[Entry],
-    cells: &Cells,
-    found: &mut Vec<u32>,
-) -> Result<(), AllocError>
-    requires sorted { IsNonDecreasingBy (λ (e : Entry). e.key) entries.now }
-    requires cells { AreCells cells.now }
-    ensures { IfOk result (λ _.
-        HasAllRows entries.now cells.now found.old.items found.new.items) }
-{
-    for row in 0..row_count(cells) {
-        let part = part_from(entries, row_of(cells, row), cells.height);
-        append_items(part, found)?;
-    }
-    Ok(())
-}
-
-/// Sorts the items and keeps each once.
-pub(crate) fn keep_ascending(items: &mut Vec<u32>)
-    ensures rises { IsStrictlyIncreasing items.new.items }
-    ensures keeps { (x : ℕ) → Contains items.old.items x → Contains items.new.items x }
-    ensures adds_none { (x : ℕ) → Contains items.new.items x → Contains items.old.items x }
-{
-    items.sort_unstable();
-    items.dedup();
-}
-
-/// Writes the positions of so many boxes into `found`, in order.
-pub(crate) fn write_positions(count: u32, found: &mut Vec<u32>) -> Result<(), AllocError>
-    ensures { IfOk result (λ _. found.new.items ≡ range_with_len 0 count) }
-{
-    found.clear();
-    for position in 0..count {
-        found.push(position)?;
-    }
-    Ok(())
 }
 
 // An entry for each cell of each box of the level.
@@ -107,7 +66,7 @@ fn append_box(
         entries.old.items ++ entries_in level around.now item) }
 {
     if has(level, around) {
-        append_cells(entries, item, &cells_over(level.side, 0, around))?;
+        append_cells(entries, item, &cells_over(level.side, around))?;
     }
     Ok(())
 }
@@ -144,42 +103,4 @@ fn sort_by_key(entries: &mut Vec<Entry>)
     ensures moved { IsPermutation entries.old.items entries.new.items }
 {
     entries.sort_unstable_by_key(|e| e.key);
-}
-
-// The entries whose keys are `first` or one of the next, `many` in all.
-fn part_from(entries: &[Entry], first: u64, many: u64) -> &[Entry]
-    requires sorted { IsNonDecreasingBy (λ (e : Entry). e.key) entries.now }
-    requires first { first < 2 ^ 63 }
-    requires many { many ≤ AXIS_LIMIT }
-    ensures has { (e : Entry) → Contains entries.now e → first ≤ e.key → e.key < first + many →
-        Contains result.now e }
-    ensures only { (n : ℕ) → All (λ (e : Entry). e.item < n) entries.now →
-        All (λ (e : Entry). e.item < n) result.now }
-{
-    let start = count_below(entries, first);
-    let (_, rest) = entries.split_at(start);
-    let end = count_below(rest, first + many);
-    let (part, _) = rest.split_at(end);
-    part
-}
-
-// How many entries have keys below this one: those at the front.
-fn count_below(entries: &[Entry], key: u64) -> usize
-    requires { IsNonDecreasingBy (λ (e : Entry). e.key) entries.now }
-    ensures bound { result ≤ length entries.now }
-    ensures below { (k : ℕ) (d : Entry) → k < result → (slice_index_or entries.now k d).key < key }
-    ensures rest { (k : ℕ) (d : Entry) → result ≤ k → k < length entries.now →
-        key ≤ (slice_index_or entries.now k d).key }
-{
-    entries.partition_point(|e| e.key < key)
-}
-
-fn append_items(entries: &[Entry], found: &mut Vec<u32>) -> Result<(), AllocError>
-    ensures { IfOk result (λ _. found.new.items ≡
-        found.old.items ++ map (λ e. e.item) entries.now) }
-{
-    for entry in entries {
-        found.push(entry.item)?;
-    }
-    Ok(())
 }

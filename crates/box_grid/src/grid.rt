@@ -1,12 +1,13 @@
 //! Boxes that are sorted by the cells that they cover.
-ghost use Rattle.std.specs.Prelude.{◌≡◌, ◌<◌, ◌≤◌, ◌^◌, ℕ, Bool, List, IfOk, All, filter, length};
-ghost use Rattle.std.specs.List.{range_with_len};
-ghost use Rattle.space3.specs.declared.boxes.BoundingBox.{BoundingBox};
-ghost use Rattle.box_grid.specs.Candidates.{AreCandidates, LiesInTheBox, OnlyNearPass};
+ghost use Rattle.std.specs.Prelude.{◌≡◌, ◌<◌, ◌≤◌, ◌^◌, IfOk, All, length};
+ghost use Rattle.box_grid.specs.Near.{LiesInTheBox, near_positions};
 
-use crate::cells::{cells_over, row_count};
-use crate::entries::{Entry, append_items_over, entries_of_boxes, keep_ascending, write_positions};
+use crate::cells::{cells_over, row_count, widened};
+use crate::entries::{Entry, entries_of_boxes};
 use crate::limits::{BOXES_A_ROW, REACH_LIMIT};
+use crate::search::{
+    append_all_touching, append_touching_of_level, append_touching_over, keep_ascending,
+};
 use crate::sizes::{Level, common_side, great_side};
 use space3::BoundingBox;
 use std::alloc::{AllocError, Global};
@@ -74,35 +75,36 @@ impl BoxGrid {
         self.boxes.as_slice()
     }
 
-    /// Writes the candidates for boxes near `around` into `found`, which may hold anything before: positions of boxes,
-    /// ascending, among them of each box whose gap to `around` is at most `reach` grid units along each axis.
+    /// Writes the positions of the boxes whose gap to `around` is at most `reach` grid units along each axis into
+    /// `found`, ascending; it may hold anything before. Answers how often two boxes were compared, at least once for each
+    /// of these.
     pub fn near(
         &self,
         reach: u32,
         around: &BoundingBox,
         found: &mut Vec<u32>,
-    ) -> Result<(), AllocError>
+    ) -> Result<u64, AllocError>
         requires reach { reach ≤ REACH_LIMIT }
         requires in_box { LiesInTheBox around.now }
-        ensures { IfOk result (λ _. AreCandidates reach around.now self.now found.new.items) }
+        ensures found { IfOk result (λ _. found.new.items ≡
+            near_positions reach around.now self.now) }
+        ensures counted { IfOk result (λ compared. length found.new.items ≤ compared) }
     {
-        let cells = cells_over(self.side, reach, around);
-        let count = self.boxes().len();
-        if row_count(&cells) > count as u64 / BOXES_A_ROW {
-            return write_positions(count as u32, found);
-        }
-        let great_cells = cells_over(self.great_side, reach, around);
+        let reached = widened(around, reach);
+        let cells = cells_over(self.side, &reached);
         found.clear();
-        append_items_over(&self.entries, &cells, found)?;
-        append_items_over(&self.great_entries, &great_cells, found)?;
+        if row_count(&cells) > self.boxes.len() as u64 / BOXES_A_ROW {
+            return append_all_touching(&self.boxes, &reached, found);
+        }
+        let common = append_touching_over(&self.entries, &cells, &self.boxes, &reached, found)?;
+        let great = append_touching_of_level(
+            &self.great_entries,
+            self.great_side,
+            &self.boxes,
+            &reached,
+            found,
+        )?;
         keep_ascending(found);
-        Ok(())
+        Ok(common.saturating_add(great))
     }
 }
-
-/// A filter of the candidates keeps what it keeps of all positions, where it lets no other than near boxes pass.
-pub fn candidates_pass_as_all_positions()
-    ensures { (reach : ℕ) (around : BoundingBox) (boxes : List BoundingBox) (found : List ℕ) →
-        AreCandidates reach around boxes found → (p : ℕ → Bool) → OnlyNearPass reach around boxes p →
-        filter p found ≡ filter p (range_with_len 0 (length boxes)) }
-{}

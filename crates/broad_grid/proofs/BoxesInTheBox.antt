@@ -14,7 +14,7 @@ use Rattle.space3.specs.Boxes.{box_around, box_of}
 use Rattle.space3.specs.Mesh.{place_of}
 use Rattle.space3.specs.Vectors.{origin, vector}
 use Rattle.space3.proofs.BoxLemmas.{box-joined, corners_keep_bound}
-use Rattle.box_grid.specs.Candidates.{LiesInTheBox}
+use Rattle.box_grid.specs.Near.{LiesInTheBox}
 use Rattle.broad_grid.specs.PartBoxes.{part_box}
 
 -- the box around two boxes in the box of places is there too

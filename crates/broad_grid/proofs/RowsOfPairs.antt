@@ -16,7 +16,7 @@ use Rattle.boundary.specs.declared.pairs.PairKind.{PairKind}
 use Rattle.boundary.specs.declared.pairs.PairKind.TheVariants.{VE, VT, EE, ET}
 use Rattle.boundary.specs.Pairs.{all_pairs, counts, first_parts, kinds, pair_of, pairs_of_kind, second_parts}
 use Rattle.boundary.specs.Surface.{SurfaceLists}
-use Rattle.box_grid.specs.Candidates.{AreCandidates, OnlyNearPass}
+use Rattle.box_grid.specs.Near.{AreCandidates, OnlyNearPass}
 use Rattle.box_grid.specs.Calls.Cells.{box_at}
 use Rattle.box_grid.proofs.Service.{pass_as_all_positions}
 use Rattle.broad_grid.specs.declared.boxes.PartBoxes.{PartBoxes}

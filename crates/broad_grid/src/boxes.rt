@@ -1,7 +1,7 @@
 //! The boxes of all parts of a surface in a motion.
 ghost use Rattle.std.specs.Prelude.{◌≡◌, ◌<◌, ◌^◌, ◌∷◌, [], IfOk, All, length, map};
 ghost use Rattle.space3.specs.Mesh.{HasNodes};
-ghost use Rattle.box_grid.specs.Candidates.{LiesInTheBox};
+ghost use Rattle.box_grid.specs.Near.{LiesInTheBox};
 ghost use Rattle.broad_grid.specs.PartBoxes.{part_box, swept_box};
 ghost use Rattle.broad_grid.specs.Calls.Boxes.{HasBoxes, IsPlaced, first_boxes, second_boxes};
 

@@ -1,19 +1,18 @@
-//! The walk over first parts, for each of which a grid gives the second parts that may be near.
-ghost use Rattle.std.specs.Prelude.{◌≡◌, ◌<◌, ◌≤◌, ◌+◌, ◌++◌, ◌∷◌, [], IfOk, All, length, map, filter, if◌then◌else◌};
-ghost use Rattle.space3.specs.Boxes.{are_within};
+//! The walk over first parts, for each of which a grid gives the second parts that are near.
+ghost use Rattle.std.specs.Prelude.{◌≡◌, ◌<◌, ◌≤◌, ◌+◌, ◌++◌, ◌∷◌, [], IfOk, All, length, if◌then◌else◌};
 ghost use Rattle.space3.specs.Mesh.{HasNodes};
-ghost use Rattle.boundary.specs.Pairs.{counts, first_parts, pair_of, second_parts};
-ghost use Rattle.box_grid.specs.Candidates.{LiesInTheBox};
+ghost use Rattle.boundary.specs.Pairs.{first_parts, pair_of, second_parts};
+ghost use Rattle.box_grid.specs.Near.{LiesInTheBox};
 ghost use Rattle.box_grid.specs.declared.limits.TheConstants.{REACH_LIMIT};
 ghost use Rattle.broad_grid.specs.Calls.Counts.{HasCounted};
-ghost use Rattle.broad_grid.specs.Calls.Rows.{AreFirst, HasAsMany, IsFirst, is_near, near_pairs_with, near_row, near_rows, near_rows_of_kinds};
+ghost use Rattle.broad_grid.specs.Calls.Rows.{AreFirst, HasAsMany, IsFirst, near_row, near_rows, near_rows_of_kinds, pairs_with};
 ghost use Rattle.broad_grid.specs.Calls.Walk.{near_pairs_of};
 
 use crate::boxes::{PartBoxes, first_boxes, part_boxes, second_grid};
 use crate::list::PairList;
 use boundary::{Pair, PairKind, Surface};
 use box_grid::BoxGrid;
-use space3::{BoundingBox, Places, are_within};
+use space3::{BoundingBox, Places};
 use std::alloc::{AllocError, Global};
 
 /// How often two boxes were compared. The number stays at the greatest of its type once it is there.
@@ -132,46 +131,30 @@ fn append_row(
     ensures counted { IfOk result (λ _. HasCounted tests.old.n tests.new.n
         (length pairs.old.items) (length pairs.new.items)) }
 {
-    grid.near(reach, &first.around, found)?;
-    append_near(surface, first, grid.boxes(), reach, found, tests, pairs)
+    let compared = grid.near(reach, &first.around, found)?;
+    tests.n = tests.n.saturating_add(compared);
+    append_pairs(surface, first, found, pairs)
 }
 
-// Appends the pairs of a first part with those of some second parts that are near and count.
-fn append_near(
+// Appends the pairs of a first part with those of these second parts that count.
+fn append_pairs(
     surface: &Surface,
     first: FirstPart,
-    boxes: &[BoundingBox],
-    reach: u32,
-    found: &[u32],
-    tests: &mut BoxTests,
+    seconds: &[u32],
     pairs: &mut Vec<Pair>,
 ) -> Result<(), AllocError>
     requires first { IsFirst surface.now first }
-    requires seconds { length boxes.now ≡ length (second_parts surface.now first.kind) }
-    requires there { All (λ b. b < length boxes.now) found.now }
+    requires there { All (λ b. b < length (second_parts surface.now first.kind)) seconds.now }
     ensures pairs { IfOk result (λ _. pairs.new.items ≡
-        pairs.old.items ++ near_pairs_with reach surface.now first boxes.now found.now) }
-    ensures tests { tests.old.n ≤ tests.new.n }
-    ensures counted { IfOk result (λ _. HasCounted tests.old.n tests.new.n
-        (length pairs.old.items) (length pairs.new.items)) }
+        pairs.old.items ++ pairs_with surface.now first seconds.now) }
+    ensures no_more { IfOk result (λ _.
+        length pairs.new.items ≤ length pairs.old.items + length seconds.now) }
 {
-    for b in found {
-        tests.n = tests.n.saturating_add(1);
-        let near = is_near(surface, first, boxes, reach, *b);
-        append_where(near, pair_with(first, *b), pairs)?;
+    for b in seconds {
+        let wanted = surface.counts(first.kind, first.a as usize, *b as usize);
+        append_where(wanted, pair_with(first, *b), pairs)?;
     }
     Ok(())
-}
-
-// Whether the second part's box is within the reach, and the pair counts.
-fn is_near(surface: &Surface, first: FirstPart, boxes: &[BoundingBox], reach: u32, b: u32) -> bool
-    requires first { IsFirst surface.now first }
-    requires seconds { length boxes.now ≡ length (second_parts surface.now first.kind) }
-    requires there { b < length boxes.now }
-    ensures { result ≡ is_near reach surface.now first boxes.now b }
-{
-    are_within(reach, &first.around, &boxes[b as usize])
-        && surface.counts(first.kind, first.a as usize, b as usize)
 }
 
 fn pair_with(first: FirstPart, b: u32) -> Pair

@@ -1,16 +1,18 @@
 -- The cells of a uniform grid, by rows along the third axis, and the entries of the cells that boxes cover.
-use Rattle.std.specs.Prelude.{ℕ, ◌+◌, ◌-◌, ◌*◌, ◌/◌, ◌%◌, ◌^◌, ◌<◌, ◌≤◌, Bool, true, false, not, if◌then◌else◌, nat_le, ℤ, pos, ◌+ℤ◌, ◌-ℤ◌, List, [], length, map, max, min, unsigned_abs, All, slice_index_or}
+use Rattle.std.specs.Prelude.{ℕ, ◌+◌, ◌-◌, ◌*◌, ◌/◌, ◌%◌, ◌^◌, ◌<◌, ◌≤◌, Bool, true, false, not, if◌then◌else◌, nat_le, ℤ, pos, ◌+ℤ◌, ◌-ℤ◌, List, [], length, map, max, min, unsigned_abs, All, IsTrue}
 use Rattle.std.specs.List.{flat_map, range_with_len, Contains}
 use Rattle.std.specs.List.Sorted.{IsNonDecreasingBy, IsPermutation}
 use Rattle.space3.specs.declared.boxes.BoundingBox.{BoundingBox}
 use Rattle.space3.specs.declared.vectors.V3.{V3}
-use Rattle.space3.specs.Vectors.{origin, vector}
-use Rattle.box_grid.specs.declared.limits.TheConstants.{AXIS_LIMIT, LEAST_SIDE, MOST_SPLIT}
+use Rattle.space3.specs.Boxes.{are_within}
+use Rattle.space3.specs.declared.places.TheConstants.{BOX_LIMIT}
+use Rattle.space3.specs.Vectors.{Within, vector}
+use Rattle.box_grid.specs.declared.limits.TheConstants.{AXIS_LIMIT, LEAST_SIDE, MOST_SPLIT, REACH_LIMIT}
 use Rattle.box_grid.specs.declared.cells.Cell.{Cell}
 use Rattle.box_grid.specs.declared.cells.Cells.{Cells}
 use Rattle.box_grid.specs.declared.entries.Entry.{Entry}
 use Rattle.box_grid.specs.declared.sizes.Level.{Level}
-use Rattle.box_grid.specs.Candidates.{LiesInTheBox}
+use Rattle.box_grid.specs.Near.{LiesInTheBox, box_at}
 
 -- the position of the cell of a component along its axis
 unfoldable pub cell_of : ℕ → ℤ → ℕ
@@ -31,6 +33,15 @@ lowered reach v = vector (v.x -ℤ pos reach) (v.y -ℤ pos reach) (v.z -ℤ pos
 abbrev pub raised : ℕ → V3 → V3
 raised reach v = vector (v.x +ℤ pos reach) (v.y +ℤ pos reach) (v.z +ℤ pos reach)
 
+-- the box with its corners moved apart by `reach`
+abbrev pub widened : ℕ → BoundingBox → BoundingBox
+widened reach b = record { least = lowered reach b.least; greatest = raised reach b.greatest }
+
+-- both corners are in the box of places, or past it by no more than the greatest reach
+pub record LiesByTheBox (b : BoundingBox) : Type 0 where
+  pub least : Within (BOX_LIMIT + REACH_LIMIT) b.least
+  pub greatest : Within (BOX_LIMIT + REACH_LIMIT) b.greatest
+
 -- positions within the limit along each axis
 pub record IsCell (c : Cell) : Type 0 where
   pub x : c.x < AXIS_LIMIT
@@ -48,10 +59,9 @@ cells_between a b = record {
   height = max a.z b.z - min a.z b.z + 1;
 }
 
--- the cells between those of a box's corners, moved apart by `reach`
-abbrev pub cells_over : ℕ → ℕ → BoundingBox → Cells
-cells_over side reach b =
-    cells_between (cell_at side (lowered reach b.least)) (cell_at side (raised reach b.greatest))
+-- the cells between those of a box's corners
+abbrev pub cells_over : ℕ → BoundingBox → Cells
+cells_over side b = cells_between (cell_at side b.least) (cell_at side b.greatest)
 
 -- cells within the limit, at least one
 pub record AreCells (c : Cells) : Type 0 where
@@ -93,13 +103,9 @@ is_great side b = nat_le side (longest_side b / MOST_SPLIT)
 abbrev pub has : Level → BoundingBox → Bool
 has level b = if level.great then is_great level.common b else not (is_great level.common b)
 
--- the box at a position
-abbrev pub box_at : List BoundingBox → ℕ → BoundingBox
-box_at boxes i = slice_index_or boxes i (record { least = origin; greatest = origin })
-
 -- an entry for each cell of a box, where it is of the level
 abbrev pub entries_in : Level → BoundingBox → ℕ → List Entry
-entries_in level b item = if has level b then entries_of (cells_over level.side 0 b) item else []
+entries_in level b item = if has level b then entries_of (cells_over level.side b) item else []
 
 -- an entry for each cell of each box of the level
 abbrev pub entries_of_boxes : Level → List BoundingBox → List Entry
@@ -123,15 +129,24 @@ pub record IsGrid (boxes : List BoundingBox) (side : ℕ) (entries : List Entry)
   pub common : IsLevel (level_of false side side) boxes entries
   pub great : IsLevel (level_of true side great_side) boxes great_entries
 
--- Items that were there, those of the entries in the first so many rows of these cells, and perhaps others of the
--- entries.
-pub record HasRows (entries : List Entry) (c : Cells) (rows : ℕ) (old found : List ℕ) : Type 0 where
+-- the box at a position has a common point with `reached`
+abbrev pub touches : BoundingBox → List BoundingBox → ℕ → Bool
+touches reached boxes i = are_within 0 reached (box_at boxes i)
+
+-- a number below n that passes a test
+pub record PassesBelow (n : ℕ) (p : ℕ → Bool) (i : ℕ) : Type 0 where
+  pub below : i < n
+  pub passes : IsTrue (p i)
+
+-- Items that were there, those that pass a test of the entries in the first so many rows of these cells, and perhaps
+-- others of the entries that pass.
+pub record HasRows (p : ℕ → Bool) (entries : List Entry) (c : Cells) (rows : ℕ) (old found : List ℕ) : Type 0 where
   pub kept : (x : ℕ) → Contains old x → Contains found x
   pub has : (r : ℕ) (e : Entry) → r < rows → Contains entries e → row_of c r ≤ e.key →
-      e.key < row_of c r + c.height → Contains found e.item
-  pub only : (n : ℕ) → All (λ (e : Entry). e.item < n) entries → All (λ i. i < n) old →
-      All (λ i. i < n) found
+      e.key < row_of c r + c.height → IsTrue (p e.item) → Contains found e.item
+  pub only : (n : ℕ) → All (λ (e : Entry). e.item < n) entries → All (PassesBelow n p) old →
+      All (PassesBelow n p) found
 
 -- the items of the entries in all rows
-abbrev pub HasAllRows : List Entry → Cells → List ℕ → List ℕ → Type 0
-HasAllRows entries c old found = HasRows entries c (c.width * c.depth) old found
+abbrev pub HasAllRows : (ℕ → Bool) → List Entry → Cells → List ℕ → List ℕ → Type 0
+HasAllRows p entries c old found = HasRows p entries c (c.width * c.depth) old found

@@ -6,7 +6,7 @@ use Rattle.space3.specs.Mesh.{HasNodes}
 use Rattle.boundary.specs.declared.pairs.PairKind.{PairKind}
 use Rattle.boundary.specs.declared.pairs.PairKind.TheVariants.{VE, VT, EE, ET}
 use Rattle.boundary.specs.Surface.{AreSurfaceLists, SurfaceLists}
-use Rattle.box_grid.specs.Candidates.{LiesInTheBox}
+use Rattle.box_grid.specs.Near.{LiesInTheBox}
 use Rattle.broad_grid.specs.declared.boxes.PartBoxes.{PartBoxes}
 use Rattle.broad_grid.specs.PartBoxes.{swept_box}
 

@@ -1,14 +1,12 @@
 -- The near pairs by their first parts.
-use Rattle.std.specs.Prelude.{ℕ, ◌≡◌, ◌<◌, ◌^◌, Bool, ◌&&◌, List, All, length, map, filter}
+use Rattle.std.specs.Prelude.{ℕ, ◌≡◌, ◌<◌, ◌^◌, List, All, length, map, filter}
 use Rattle.std.specs.List.{flat_map, range_with_len}
 use Rattle.space3.specs.declared.boxes.BoundingBox.{BoundingBox}
-use Rattle.space3.specs.Boxes.{are_within}
 use Rattle.boundary.specs.declared.pairs.Pair.{Pair}
 use Rattle.boundary.specs.declared.pairs.PairKind.{PairKind}
 use Rattle.boundary.specs.Pairs.{counts, first_parts, pair_of, second_parts}
 use Rattle.boundary.specs.Surface.{SurfaceLists}
-use Rattle.box_grid.specs.Candidates.{LiesInTheBox}
-use Rattle.box_grid.specs.Calls.Cells.{box_at}
+use Rattle.box_grid.specs.Near.{LiesInTheBox, box_at, near_positions}
 use Rattle.broad_grid.specs.declared.boxes.PartBoxes.{PartBoxes}
 use Rattle.broad_grid.specs.declared.near.FirstPart.{FirstPart}
 use Rattle.broad_grid.specs.Calls.Boxes.{first_boxes, second_boxes}
@@ -29,19 +27,14 @@ pub record HasAsMany (s : SurfaceLists) (boxes : PartBoxes) : Type 0 where
   pub firsts : (kind : PairKind) → AreFirst s kind (first_boxes boxes kind)
   pub seconds : (kind : PairKind) → length (second_boxes boxes kind) ≡ length (second_parts s kind)
 
--- the box of the second part b is near that of the first part, and the pair counts
-abbrev pub is_near : ℕ → SurfaceLists → FirstPart → List BoundingBox → ℕ → Bool
-is_near reach s first boxes b =
-    are_within reach first.around (box_at boxes b) && counts s (pair_of first.kind first.a b)
-
--- the near pairs of a first part with some second parts
-abbrev pub near_pairs_with : ℕ → SurfaceLists → FirstPart → List BoundingBox → List ℕ → List Pair
-near_pairs_with reach s first boxes seconds =
-    map (pair_of first.kind first.a) (filter (is_near reach s first boxes) seconds)
+-- the pairs of a first part with those of some second parts that count
+abbrev pub pairs_with : SurfaceLists → FirstPart → List ℕ → List Pair
+pairs_with s first seconds =
+    map (pair_of first.kind first.a) (filter (λ b. counts s (pair_of first.kind first.a b)) seconds)
 
 -- the near pairs of a first part
 abbrev pub near_row : ℕ → SurfaceLists → FirstPart → List BoundingBox → List Pair
-near_row reach s first boxes = near_pairs_with reach s first boxes (range_with_len 0 (length boxes))
+near_row reach s first boxes = pairs_with s first (near_positions reach first.around boxes)
 
 -- the first part of a kind at a position
 abbrev pub first_part : PairKind → List BoundingBox → ℕ → FirstPart

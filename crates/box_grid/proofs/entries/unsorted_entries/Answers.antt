@@ -1,5 +1,6 @@
 use Rattle.std.proofs.Common.{refl, []}
-use Rattle.box_grid.specs.Calls.Cells.{box_at, entries_in}
+use Rattle.box_grid.specs.Calls.Cells.{entries_in}
+use Rattle.box_grid.specs.Near.{box_at}
 use Rattle.box_grid.proofs.AppendedLists.{append_list}
 use Rattle.box_grid.proofs.entries.unsorted_entries.Goals as goal
 

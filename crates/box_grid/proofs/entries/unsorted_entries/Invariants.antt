@@ -1,6 +1,7 @@
 use Rattle.std.proofs.Common.{◌≡◌}
 use Rattle.std.specs.List.{flat_map, range_with_len}
-use Rattle.box_grid.specs.Calls.Cells.{box_at, entries_in}
+use Rattle.box_grid.specs.Calls.Cells.{entries_in}
+use Rattle.box_grid.specs.Near.{box_at}
 use Rattle.box_grid.proofs.entries.unsorted_entries.Given as goal
 
 abbrev pub invariant-loop-item : goal.invariant-loop-item

@@ -1,6 +1,6 @@
 use Rattle.std.proofs.Common.{◌∙◌, ap, sym, subst, arith}
 use Rattle.space3.specs.Boxes.{box_around, box_of}
-use Rattle.box_grid.specs.Candidates.{LiesInTheBox}
+use Rattle.box_grid.specs.Near.{LiesInTheBox}
 use Rattle.broad_grid.proofs.BoxesInTheBox.{around_in_box, part_box_more, point_in_box}
 use Rattle.broad_grid.proofs.boxes.part_box.Goals as goal
 

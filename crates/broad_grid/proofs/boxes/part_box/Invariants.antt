@@ -1,5 +1,5 @@
 use Rattle.std.proofs.Common.{◌≡◌, ◌<◌, take}
-use Rattle.box_grid.specs.Candidates.{LiesInTheBox}
+use Rattle.box_grid.specs.Near.{LiesInTheBox}
 use Rattle.broad_grid.specs.PartBoxes.{part_box}
 use Rattle.broad_grid.proofs.boxes.part_box.Given as goal
 

@@ -1,6 +1,6 @@
 use Rattle.std.proofs.Common.{ℕ, ◌<◌, List, length, refl, inl, ◌∙◌, ◌∷◌, [], ap, arith, map, sym, subst}
 use Rattle.std.specs.Prelude.{All}
-use Rattle.box_grid.specs.Candidates.{LiesInTheBox}
+use Rattle.box_grid.specs.Near.{LiesInTheBox}
 use Rattle.broad_grid.specs.PartBoxes.{swept_box}
 use Rattle.boundary.specs.declared.pairs.PairKind.TheVariants.{VT, EE}
 use Rattle.boundary.proofs.SurfaceParts.{first_is_edge, second_is_triangle}

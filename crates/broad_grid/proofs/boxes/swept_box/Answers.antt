@@ -1,5 +1,5 @@
 use Rattle.std.proofs.Common.{sym, subst}
-use Rattle.box_grid.specs.Candidates.{LiesInTheBox}
+use Rattle.box_grid.specs.Near.{LiesInTheBox}
 use Rattle.broad_grid.proofs.BoxesInTheBox.{around_in_box}
 use Rattle.broad_grid.proofs.boxes.swept_box.Goals as goal
 

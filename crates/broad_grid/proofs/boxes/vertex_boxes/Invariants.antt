@@ -1,6 +1,6 @@
 use Rattle.std.proofs.Common.{◌≡◌, ◌∷◌, [], map, take}
 use Rattle.std.specs.List.{All}
-use Rattle.box_grid.specs.Candidates.{LiesInTheBox}
+use Rattle.box_grid.specs.Near.{LiesInTheBox}
 use Rattle.broad_grid.specs.PartBoxes.{swept_box}
 use Rattle.broad_grid.proofs.boxes.vertex_boxes.Given as goal
 

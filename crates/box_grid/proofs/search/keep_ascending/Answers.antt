@@ -1,8 +1,9 @@
+use Rattle.std.proofs.Common.{arith}
 use Rattle.std.proofs.lemmas.List.Filters.{dedup_is}
 use Rattle.std.proofs.lemmas.List.Kept.{Contains-dedup_nat, Contains-from_dedup}
 use Rattle.std.proofs.lemmas.List.Sorted.{Contains-permutation, IsPermutation-sym}
 use Rattle.std.proofs.lemmas.Map.Keys.{IsStrictlyIncreasing-dedup}
-use Rattle.box_grid.proofs.entries.keep_ascending.Goals as goal
+use Rattle.box_grid.proofs.search.keep_ascending.Goals as goal
 
 pub returns : goal.returns
 returns c =
@@ -12,4 +13,5 @@ returns c =
       rises = rw is (IsStrictlyIncreasing-dedup _ c.sort_unstable.ensures.sorted);
       keeps = λ x h. rw is (Contains-dedup_nat _ x (Contains-permutation _ _ x moved h));
       adds_none = λ x h. Contains-permutation _ _ x (IsPermutation-sym _ _ moved) (Contains-from_dedup _ _ x (rw is at h));
+      no_more = omega (arith, c.dedup.ensures.bound, c.sort_unstable.ensures.len);
     }

@@ -1,6 +1,6 @@
 use Rattle.std.proofs.Common.{ltb, ltb-true, ltb-false, arith, rules}
 use Rattle.std.proofs.lemmas.List.Sorted.{IsPartitionPoint-from_clause, IsPartitionedBy-ltb}
-use Rattle.box_grid.proofs.entries.count_below.Goals as goal
+use Rattle.box_grid.proofs.search.count_below.Goals as goal
 
 pub returns : goal.returns
 returns c =
