@@ -1,13 +1,15 @@
 //! The pairs of a surface's parts whose boxes touch in a motion, and those whose boxes are close at one moment, found
-//! by uniform grids without a look at each pair.
+//! by uniform grids without a look at each pair; or, where little has moved, among pairs that were kept.
 #![tactic(auto)]
 
 mod boxes;
+mod kept;
 mod laws;
 mod list;
 mod near;
 mod pairs;
 
+pub use kept::{KEPT_LIMIT, Kept};
 pub use laws::untouched_pairs_are_certified;
 pub use list::PairList;
 pub use near::BoxTests;
