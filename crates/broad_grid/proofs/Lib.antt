@@ -1,6 +1,7 @@
 mod BoxesInTheBox
 pub mod CloseCounts
 mod Counts
+pub mod KeptAll
 mod PlacedParts
 pub mod RowsOfPairs
 pub mod Untouched

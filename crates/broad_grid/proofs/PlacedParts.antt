@@ -16,7 +16,7 @@ use Rattle.broad_grid.specs.Calls.Boxes.{HasBoxes, IsPlaced, first_boxes, second
 use Rattle.broad_grid.specs.Calls.Rows.{AreFirst, HasAsMany}
 
 -- one to three vertices have places where all vertices have
-placed : (s : SurfaceLists) (x0 x1 : List V3) (nodes : List ℕ) → HasNodes x0 s.vertices → HasNodes x1 s.vertices → IsPart s nodes → IsPlaced x0 x1 nodes
+pub placed : (s : SurfaceLists) (x0 x1 : List V3) (nodes : List ℕ) → HasNodes x0 s.vertices → HasNodes x1 s.vertices → IsPart s nodes → IsPlaced x0 x1 nodes
 placed s x0 x1 nodes h k part = record {
   some = omega (arith, part.some);
   start = λ j d l. All-contains (λ node. node < length x0) s.vertices (get_or nodes j d) h (part.vertices j d l);

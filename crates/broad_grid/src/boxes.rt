@@ -109,8 +109,8 @@ fn swept_box(x0: &Places, x1: &Places, nodes: &[u32]) -> BoundingBox
     box_around(&part_box(x0, nodes), &part_box(x1, nodes))
 }
 
-// The box around the places of these nodes.
-fn part_box(places: &Places, nodes: &[u32]) -> BoundingBox
+/// The box around the places of these nodes.
+pub(crate) fn part_box(places: &Places, nodes: &[u32]) -> BoundingBox
     requires some { 0 < length nodes.now }
     requires placed { HasNodes places.now nodes.now }
     ensures value { result ≡ part_box places.now nodes.now }

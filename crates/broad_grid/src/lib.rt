@@ -1,16 +1,18 @@
 //! The pairs of a surface's parts whose boxes touch in a motion, and those whose boxes are close at one moment, found
-//! by uniform grids without a look at each pair.
+//! by uniform grids without a look at each pair; or, where little has moved, among pairs that were kept.
 //!
-//! `pairs`: the public calls. `near`: the walk over first parts. `boxes`: the boxes of all parts. `list`: a list of
-//! pairs. `laws`: what holds of the pairs that are left out.
+//! `pairs`: the public calls. `near`: the walk over first parts. `boxes`: the boxes of all parts. `kept`: pairs that are
+//! kept. `list`: a list of pairs. `laws`: what holds of the pairs that are left out.
 #![tactic(auto)]
 
 mod boxes;
+mod kept;
 mod laws;
 mod list;
 mod near;
 mod pairs;
 
+pub use kept::{KEPT_LIMIT, Kept};
 pub use laws::untouched_pairs_are_certified;
 pub use list::PairList;
 pub use near::BoxTests;

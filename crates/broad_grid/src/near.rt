@@ -167,7 +167,12 @@ fn pair_with(first: FirstPart, b: u32) -> Pair
     }
 }
 
-fn append_where(wanted: bool, pair: Pair, pairs: &mut Vec<Pair>) -> Result<(), AllocError>
+/// Appends a pair where it is wanted.
+pub(crate) fn append_where(
+    wanted: bool,
+    pair: Pair,
+    pairs: &mut Vec<Pair>,
+) -> Result<(), AllocError>
     ensures pairs { IfOk result (λ _. pairs.new.items ≡
         pairs.old.items ++ (if wanted then pair ∷ [] else [])) }
     ensures one { IfOk result (λ _. length pairs.new.items ≤ length pairs.old.items + 1) }

@@ -1,0 +1,179 @@
+//! Near pairs that are kept, so that those that are close later are found among them.
+ghost use Rattle.std.specs.Prelude.{◌≡◌, ◌+◌, ◌*◌, ◌-ℤ◌, ◌≤◌, IfOk, IsTrue, All, false, filter, length, nat_le, unsigned_abs};
+ghost use Rattle.space3.specs.Boxes.{are_within};
+ghost use Rattle.space3.specs.Mesh.{HasNodes};
+ghost use Rattle.boundary.specs.Pairs.{IsPair};
+ghost use Rattle.broad_grid.specs.Kept.{IsWhole, differ_by_at_most, has_stayed, have_stayed};
+ghost use Rattle.broad_grid.specs.NearPairs.{close_pairs_of, is_close};
+ghost use Rattle.broad_grid.specs.PartBoxes.{part_box};
+ghost use Rattle.broad_grid.specs.Calls.Boxes.{IsPlaced};
+
+use crate::boxes::part_box;
+use crate::list::PairList;
+use crate::near::append_where;
+use crate::pairs::close_pairs;
+use boundary::{Pair, PairKind, Surface};
+use space3::{Places, V3, are_within};
+use std::alloc::{AllocError, Global};
+use std::marker::Model;
+use std::slice::from_ref;
+
+/// The most that a reach or a margin may be, in grid units: 2^10. So a reach and twice a margin are less than the
+/// greatest gap that `box_grid` takes.
+pub const KEPT_LIMIT: u32 = 1024;
+
+/// Pairs of a surface's parts that were near each other where the nodes stood once. While no node is far from there,
+/// those that are close are found among them.
+#[derive(Drop)]
+pub struct Kept {
+    places: Places,
+    reach: u32,
+    margin: u32,
+    pairs: PairList,
+}
+
+impl Model for Kept {
+    ghost use Rattle.broad_grid.specs.Kept.{KeptPairs};
+
+    ghost Value = { KeptPairs };
+
+    ghost view = { λ k. record {
+      places = k.places;
+      reach = k.reach;
+      margin = k.margin;
+      pairs = k.pairs;
+    } };
+}
+
+impl Kept {
+    /// Keeps the pairs of a vertex and a triangle and those of two edges from which [`Kept::close`] finds those with a
+    /// gap of at most `reach`, until a node has moved from `x` by more than `margin` along an axis. Both are in grid
+    /// units, at most [`KEPT_LIMIT`]. Each vertex has a place.
+    pub fn open(
+        alloc: Global,
+        surface: &Surface,
+        x: &Places,
+        reach: u32,
+        margin: u32,
+    ) -> Result<Self, AllocError>
+        requires placed { HasNodes x.now surface.now.vertices }
+        requires reach { reach ≤ KEPT_LIMIT }
+        requires margin { margin ≤ KEPT_LIMIT }
+        ensures places { IfOk result (λ kept. kept.places ≡ x.now) }
+        ensures reach { IfOk result (λ kept. kept.reach ≡ reach) }
+        ensures margin { IfOk result (λ kept. kept.margin ≡ margin) }
+        ensures whole { IfOk result (IsWhole surface.now) }
+    {
+        let places = x.copy(alloc)?;
+        let pairs = close_pairs(alloc, surface, x, reach + 2 * margin)?;
+        Ok(Kept {
+            places,
+            reach,
+            margin,
+            pairs,
+        })
+    }
+
+    /// The pairs whose parts' boxes at `x` have a gap of at most the reach along each axis: those of the kept ones where
+    /// no node is farther than the margin from its kept place along an axis, else all of the surface's, as
+    /// [`close_pairs`] gives them. There is a kept place for each place, and what is kept are pairs of the surface.
+    pub fn close(
+        &self,
+        alloc: Global,
+        surface: &Surface,
+        x: &Places,
+    ) -> Result<PairList, AllocError>
+        requires reach { self.now.reach ≤ KEPT_LIMIT }
+        requires margin { self.now.margin ≤ KEPT_LIMIT }
+        requires each { length x.now ≡ length self.now.places }
+        requires placed { HasNodes x.now surface.now.vertices }
+        requires pairs { All (IsPair surface.now) self.now.pairs }
+        ensures kept { let stayed = have_stayed self.now.margin self.now.places x.now in
+            IfOk result (λ pairs. IsTrue stayed →
+            pairs ≡ filter (is_close self.now.reach surface.now x.now) self.now.pairs) }
+        ensures anew { let stayed = have_stayed self.now.margin self.now.places x.now in
+            IfOk result (λ pairs. stayed ≡ false →
+            pairs ≡ close_pairs_of self.now.reach surface.now x.now) }
+        ensures whole { IfOk result (λ pairs. IsWhole surface.now self.now →
+            pairs ≡ close_pairs_of self.now.reach surface.now x.now) }
+    {
+        if have_stayed(self.margin, &self.places, x) {
+            close_among(alloc, surface, x, self.reach, self.pairs.items())
+        } else {
+            close_pairs(alloc, surface, x, self.reach)
+        }
+    }
+}
+
+// Whether no place differs from the kept one by more than the margin along an axis.
+fn have_stayed(margin: u32, kept: &Places, x: &Places) -> bool
+    ensures { result ≡ have_stayed margin kept.now x.now }
+{
+    kept.items()
+        .iter()
+        .zip(x.items())
+        .all(|(p, q)| has_stayed(margin, *p, *q))
+}
+
+fn has_stayed(margin: u32, p: V3, q: V3) -> bool
+    ensures { result ≡ has_stayed margin p q }
+{
+    differ_by_at_most(margin, p.x, q.x)
+        & differ_by_at_most(margin, p.y, q.y)
+        & differ_by_at_most(margin, p.z, q.z)
+}
+
+fn differ_by_at_most(margin: u32, a: i64, b: i64) -> bool
+    ensures { result ≡ differ_by_at_most margin a b }
+{
+    a.abs_diff(b) <= u64::from(margin)
+}
+
+// Those of the pairs that are close.
+fn close_among(
+    alloc: Global,
+    surface: &Surface,
+    x: &Places,
+    reach: u32,
+    pairs: &[Pair],
+) -> Result<PairList, AllocError>
+    requires placed { HasNodes x.now surface.now.vertices }
+    requires pairs { All (IsPair surface.now) pairs.now }
+    ensures { IfOk result (λ close. close ≡ filter (is_close reach surface.now x.now) pairs.now) }
+{
+    let mut close = Vec::new(alloc);
+    for pair in pairs {
+        append_where(is_close(surface, x, reach, *pair), *pair, &mut close)?;
+    }
+    Ok(PairList::of_vec(close))
+}
+
+// Whether a pair has a distance of its own, and the boxes of its parts are within the reach.
+fn is_close(surface: &Surface, x: &Places, reach: u32, pair: Pair) -> bool
+    requires placed { HasNodes x.now surface.now.vertices }
+    requires pair { IsPair surface.now pair }
+    ensures { result ≡ is_close reach surface.now x.now pair }
+{
+    let a = pair.a as usize;
+    let b = pair.b as usize;
+    match pair.kind {
+        PairKind::VT => {
+            let vertex = from_ref(&surface.vertices()[a]);
+            are_parts_within(x, reach, vertex, &surface.triangles()[b])
+        }
+        PairKind::EE => {
+            let edges = surface.edges();
+            are_parts_within(x, reach, &edges[a], &edges[b])
+        }
+        PairKind::VE | PairKind::ET => false,
+    }
+}
+
+// Whether the boxes of two parts, by their nodes, are within the reach.
+fn are_parts_within(x: &Places, reach: u32, left: &[u32], right: &[u32]) -> bool
+    requires left { IsPlaced x.now x.now left.now }
+    requires right { IsPlaced x.now x.now right.now }
+    ensures { result ≡ are_within reach (part_box x.now left.now) (part_box x.now right.now) }
+{
+    are_within(reach, &part_box(x, left), &part_box(x, right))
+}
