@@ -2,6 +2,7 @@ pub mod AddedEntries
 pub mod AddedTables
 pub mod Bounds
 pub mod EntrySums
+pub mod FreeTables
 pub mod KeptTables
 pub mod Linear
 pub mod Placed

@@ -1,6 +1,6 @@
 -- Tables as they are stored: for each node the blocks that stand in its row, each with its column. What stands in a
 -- place of no entry is 0. Callers name the nodes and the table alone.
-use Rattle.std.specs.Prelude.{ℕ, ◌==◌, List, [], ◌∷◌, length, slice_index_or, if◌then◌else◌}
+use Rattle.std.specs.Prelude.{ℕ, ◌==◌, Bool, List, [], ◌∷◌, length, slice_index_or, if◌then◌else◌}
 use Rattle.vec_q.specs.Matrices.{M3}
 use Rattle.block_rows.specs.Tables.{Table, no_block}
 
@@ -25,7 +25,8 @@ table_of rows row column = block_in (slice_index_or rows row []) column
 abbrev pub nodes_of : List (List Entry) → ℕ
 nodes_of rows = length rows
 
--- the rows of sums, and how many blocks were added
+-- the rows of sums, whether each node is fixed, and how many blocks were added
 pub record StoredSums : Type 0 where
   pub rows : List (List Entry)
+  pub fixed : List Bool
   pub added : ℕ

@@ -26,6 +26,11 @@ abbrev pub with_block : (i j : ℕ) → M3 → Table → Table
 with_block i j block table row column =
     if (row == i) && (column == j) then sum_of_blocks (table row column) block else table row column
 
+-- the table without what stands in rows or columns of fixed nodes
+abbrev pub free_table : (fixed : List Bool) → Table → Table
+free_table fixed table row column =
+    if slice_index_or fixed row false || slice_index_or fixed column false then no_block else table row column
+
 -- each component, and each entry, cut to 62 bits
 abbrev pub cut_vector : V3 → V3
 cut_vector v = vector (cut_of 62 v.x) (cut_of 62 v.y) (cut_of 62 v.z)

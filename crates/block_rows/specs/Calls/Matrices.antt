@@ -1,19 +1,22 @@
 -- Words over the fields of sums and of rows.
-use Rattle.std.specs.Prelude.{ℕ, pos, ◌≤◌, ◌*◌, ◌^◌, Bool, false, List, [], ◌∷◌, length, map, All, slice_index_or, if◌then◌else◌}
+use Rattle.std.specs.Prelude.{◌≡◌, ℕ, pos, ◌≤◌, ◌*◌, ◌^◌, Bool, false, List, [], ◌∷◌, length, map, All, slice_index_or, if◌then◌else◌}
 use Rattle.std.specs.List.{range_with_len}
 use Rattle.vec_q.specs.Matrices.{unit_times}
 use Rattle.block_rows.specs.declared.sums.TheConstants.{MOST_ADDED}
 use Rattle.block_rows.specs.Calls.Entries.{free_row, IsRow, IsSmall}
-use Rattle.block_rows.specs.Stored.{Entry, entry}
+use Rattle.block_rows.specs.Stored.{Entry, entry, table_of}
+use Rattle.block_rows.specs.Tables.{free_table}
 
 -- rows of a square table
 pub record AreRows (rows : List (List Entry)) : Type 0 where
   pub few : length rows ≤ 16384
   pub each : All (IsRow (length rows)) rows
 
--- rows of a table to which so many blocks were added
-pub record AreSums (rows : List (List Entry)) (added : ℕ) : Type 0 where
+-- rows of a table without a block in rows or columns of fixed nodes, to which so many blocks were added
+pub record AreSums (fixed : List Bool) (rows : List (List Entry)) (added : ℕ) : Type 0 where
   pub square : AreRows rows
+  pub each : length fixed ≡ length rows
+  pub free : free_table fixed (table_of rows) ≡ table_of rows
   pub count : added ≤ MOST_ADDED
   pub small : All (IsSmall (added * 2 ^ 86)) rows
 
