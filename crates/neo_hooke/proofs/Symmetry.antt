@@ -7,6 +7,7 @@ use Rattle.space3.specs.Vectors.{vector, dot_product}
 use Rattle.vec_q.specs.Matrices.{M3, columns, transposed}
 use Rattle.neo_hooke.specs.Rest.{RestShape}
 use Rattle.neo_hooke.specs.Block.{at_node, block_at, block_of, log_slopes, stretch_entry, volume_entry}
+use Rattle.neo_hooke.specs.FourNodes.{block_between}
 
 dot_product-comm : (a b : V3) → dot_product b a ≡ dot_product a b
 dot_product-comm a b =
@@ -34,3 +35,10 @@ block_at-comm rest mu lambda edges i j =
     let stiffness = rest.r *ℤ (mu +ℤ lambda) in
     ap (λ (stretch : ℤ). block_of stretch stiffness (log_slopes edges j) (log_slopes edges i)) (stretch_entry-comm rest mu i j)
     ∙ block_of-comm (stretch_entry rest mu i j) stiffness (log_slopes edges i) (log_slopes edges j)
+
+pub block_between-comm : (r mu lambda : ℤ) (first second h l : V3) → block_between r mu lambda second first l h ≡ transposed (block_between r mu lambda first second h l)
+block_between-comm r mu lambda first second h l =
+    let stretch = λ (product : ℤ). floor_of (pos 8 *ℤ mu *ℤ product) r in
+    let stiffness = r *ℤ (mu +ℤ lambda) in
+    ap (λ (product : ℤ). block_of (stretch product) stiffness l h) (dot_product-comm first second)
+    ∙ block_of-comm (stretch (dot_product first second)) stiffness h l

@@ -1,5 +1,6 @@
 //! The blocks of each two nodes of a tetrahedron, what they share computed once.
-ghost use Rattle.std.specs.Prelude.{◌≡◌, ℕ, ◌<◌, pos, ◌<ℤ◌};
+ghost use Rattle.std.specs.Prelude.{◌≡◌, ℕ, pos, ◌<ℤ◌, [], ◌∷◌, map};
+ghost use Rattle.vec_q.specs.Matrices.{transposed};
 ghost use Rattle.vec_q.specs.Raws.{raws, raw_columns};
 ghost use Rattle.vec_q.specs.Rows.{rows_of};
 ghost use Rattle.neo_hooke.specs.Block.{at_node, slopes_of};
@@ -33,31 +34,53 @@ impl Element {
         let edges = edges_of(x);
         let slopes = four_slopes(determinant(edges), edges.cofactors_into());
         let rows = four_rows(self.adj.transposed().widened_into());
-        [
-            self.blocks_of(&rows, &slopes, 0),
-            self.blocks_of(&rows, &slopes, 1),
-            self.blocks_of(&rows, &slopes, 2),
-            self.blocks_of(&rows, &slopes, 3),
-        ]
+        self.all_blocks(&rows, &slopes)
     }
 
-    // The blocks of a node with each.
-    fn blocks_of(
+    // The blocks of each two nodes, from the nodes' rows and slopes. That of two nodes in the other order is transposed.
+    fn all_blocks(
         &self,
         rows: &FourVectors<0, 37>,
         slopes: &FourVectors<24, 24>,
-        i: u8,
-    ) -> [[[i128; 3]; 3]; 4]
-        requires { i < 4 }
-        ensures { result ≡ blocks_of self.now.r.raw self.now.mu.raw self.now.lambda.raw
-            (vector_at rows.now) (vector_at slopes.now) i }
+    ) -> [[[[i128; 3]; 3]; 4]; 4]
+        ensures { result ≡ map (blocks_of self.now.r.raw self.now.mu.raw self.now.lambda.raw
+            (vector_at rows.now) (vector_at slopes.now)) (0 ∷ 1 ∷ 2 ∷ 3 ∷ []) }
     {
-        let (row, h) = (rows.at(i), slopes.at(i));
+        let zero = self.block_between(rows.zero, rows.zero, slopes.zero, slopes.zero);
+        let zero_one = self.block_between(rows.zero, rows.one, slopes.zero, slopes.one);
+        let zero_two = self.block_between(rows.zero, rows.two, slopes.zero, slopes.two);
+        let zero_three = self.block_between(rows.zero, rows.three, slopes.zero, slopes.three);
+        let one = self.block_between(rows.one, rows.one, slopes.one, slopes.one);
+        let one_two = self.block_between(rows.one, rows.two, slopes.one, slopes.two);
+        let one_three = self.block_between(rows.one, rows.three, slopes.one, slopes.three);
+        let two = self.block_between(rows.two, rows.two, slopes.two, slopes.two);
+        let two_three = self.block_between(rows.two, rows.three, slopes.two, slopes.three);
+        let three = self.block_between(rows.three, rows.three, slopes.three, slopes.three);
         [
-            self.block_between(row, rows.zero, h, slopes.zero),
-            self.block_between(row, rows.one, h, slopes.one),
-            self.block_between(row, rows.two, h, slopes.two),
-            self.block_between(row, rows.three, h, slopes.three),
+            [
+                zero.rows(),
+                zero_one.rows(),
+                zero_two.rows(),
+                zero_three.rows(),
+            ],
+            [
+                turned(zero_one),
+                one.rows(),
+                one_two.rows(),
+                one_three.rows(),
+            ],
+            [
+                turned(zero_two),
+                turned(one_two),
+                two.rows(),
+                two_three.rows(),
+            ],
+            [
+                turned(zero_three),
+                turned(one_three),
+                turned(two_three),
+                three.rows(),
+            ],
         ]
     }
 
@@ -68,31 +91,22 @@ impl Element {
         second: VecQ<0, 37>,
         h: VecQ<24, 24>,
         l: VecQ<24, 24>,
-    ) -> [[i128; 3]; 3]
-        ensures { result ≡ rows_of (block_between self.now.r.raw self.now.mu.raw
-            self.now.lambda.raw (raws first) (raws second) (raws h) (raws l)) }
+    ) -> MatQ<0, 86>
+        ensures { raw_columns result ≡ block_between self.now.r.raw self.now.mu.raw
+            self.now.lambda.raw (raws first) (raws second) (raws h) (raws l) }
     {
         let moduli: Q<0, 32> = self.mu.add_into(self.lambda);
         let product: Q<0, 76> = first.dot_into(second);
         let stretch = self.stretch_pull(product.widened_into());
-        block_of(stretch, self.r.mul_into(moduli), h, l).rows()
+        block_of(stretch, self.r.mul_into(moduli), h, l)
     }
 }
 
-impl<const F: u32, const B: u32> FourVectors<F, B> {
-    // The vector of a node.
-    fn at(&self, node: u8) -> VecQ<F, B>
-        requires { node < 4 }
-        ensures { raws result ≡ vector_at self.now node }
-    {
-        match node {
-            0 => self.zero,
-            1 => self.one,
-            2 => self.two,
-            3 => self.three,
-            _ => unreachable!(),
-        }
-    }
+// The block of two nodes in the other order, by its rows.
+fn turned(block: MatQ<0, 86>) -> [[i128; 3]; 3]
+    ensures { result ≡ rows_of (transposed (raw_columns block)) }
+{
+    block.transposed().rows()
 }
 
 // How the logarithm of the volume changes with the place of each node.

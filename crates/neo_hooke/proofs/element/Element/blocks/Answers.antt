@@ -1,4 +1,4 @@
-use Rattle.std.proofs.Common.{◌∙◌, [], ◌∷◌, ap}
+use Rattle.std.proofs.Common.{◌∙◌, ap}
 use Rattle.vec_q.specs.Matrices.{cofactors, determinant_of}
 use Rattle.vec_q.specs.Raws.{raw_columns}
 use Rattle.neo_hooke.specs.Elements.{shape_in}
@@ -9,7 +9,7 @@ use Rattle.neo_hooke.proofs.element.Element.blocks.Goals as goal
 pub returns : goal.returns
 returns c =
     let e = c.args.self.now in
-    (λ t. c.blocks_of.ensures t ∷ c.blocks_of-2.ensures t ∷ c.blocks_of-3.ensures t ∷ c.blocks_of-4.ensures t ∷ [])
+    c.all_blocks.ensures
     ∙ blocks-are (shape_in e) e.mu.raw e.lambda.raw c.args.x.now c.determinant.result.raw (raw_columns c.cofactors_into.result) (raw_columns c.widened_into.result)
     (vector_at c.four_rows-rows.result) (vector_at c.four_slopes-slopes.result)
     (c.determinant.ensures ∙ ap determinant_of c.edges_of-edges.ensures) (c.cofactors_into.ensures ∙ ap cofactors c.edges_of-edges.ensures)
