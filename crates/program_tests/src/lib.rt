@@ -16,3 +16,5 @@ mod motions;
 mod surfaces;
 #[cfg(test)]
 mod traces;
+#[cfg(test)]
+mod transcript;
