@@ -4,22 +4,6 @@ use crate::transcript::first_fault;
 use std::test::Fail;
 
 const ACCEPTED: &str = r#"
-#file t.msh
-$MeshFormat
-2.2 0 8
-$EndMeshFormat
-$Nodes
-4
-1 0 0 0
-2 100 0 0
-3 0 100 0
-4 0 0 100
-$EndNodes
-$Elements
-1
-1 4 2 0 1 1 2 3 4
-$EndElements
-
 #do check 0 t.msh o
 #says 0
 mesh nodes 4 tets 1
@@ -39,11 +23,7 @@ $Nodes
 2 100 0 0
 3 0 100 0
 4 0 0 100
-$EndNodes
-$Elements
-1
-1 4 2 0 1 1 2 3 4
-$EndElements
+@tail
 
 #do check 0 u.msh o
 #says 0
@@ -51,7 +31,6 @@ mesh nodes 4 tets 1
 frame 0 start
 #has o_0000.msh
 @t.msh
-
 "#;
 
 #[test]
@@ -60,6 +39,7 @@ fn meshes_that_are_accepted(rt: HostRuntime) -> Result<(), Fail> {
     Ok(())
 }
 
+// A tetrahedron with edges of 0.1, with the names and the triangle that Gmsh writes, and lines that end with CR LF.
 const DECIMALS: &str = r#"
 #crlf t.msh
 $MeshFormat
@@ -82,21 +62,20 @@ $Elements
 2 4 2 5 1 1 2 30 4
 $EndElements
 
-#file start
-$MeshFormat
-2.2 0 8
-$EndMeshFormat
-$Nodes
-4
-1 0 0 0
-2 0.1 0 0
-30 0 0.1 0
-4 0 0 0.1
+#file tail
 $EndNodes
 $Elements
 1
 2 4 2 5 1 1 2 30 4
 $EndElements
+
+#file start
+@head
+1 0 0 0
+2 0.1 0 0
+30 0 0.1 0
+4 0 0 0.1
+@tail
 
 #do check 4 t.msh o
 #says 0
@@ -109,16 +88,8 @@ frame 0 start
 mesh = "t.msh"
 out = "o"
 digits = 4
-frames = 3
-budget = 10
-tol = 0
-gravity = [0, 0, -512]
-dhat = 2
-kappa = 1
-[material]
-density = 1
-mu = 0
-lambda = 0
+@fall
+@material
 
 #do run f.toml
 #says 0
@@ -130,44 +101,26 @@ frame 3 converged 1
 #has o_0000.msh
 @start
 #has o_0001.msh
-$MeshFormat
-2.2 0 8
-$EndMeshFormat
-$Nodes
-4
+@head
 1 0 0 -0.0002
 2 0.1 0 -0.0002
 30 0 0.1 -0.0002
 4 0 0 0.0998
-$EndNodes
-$Elements
-1
-2 4 2 5 1 1 2 30 4
-$EndElements
+@tail
 
 #file f.toml
 mesh = "t.msh"
 out = "o"
 digits = 4
 snap = "exact"
-frames = 3
-budget = 10
-tol = 0
-gravity = [0, 0, -512]
-dhat = 2
-kappa = 1
-[material]
-density = 1
-mu = 0
-lambda = 0
+@fall
+@material
 
 #do run f.toml
 #says 6
 mesh refused: line 11 off grid
-
 "#;
 
-// A tetrahedron with edges of 0.1, with the names and the triangle that Gmsh writes, and lines that end with CR LF.
 #[test]
 fn a_mesh_with_decimals(rt: HostRuntime) -> Result<(), Fail> {
     assert_eq!(rt; first_fault(rt.alloc(), DECIMALS)?, None);
@@ -175,22 +128,6 @@ fn a_mesh_with_decimals(rt: HostRuntime) -> Result<(), Fail> {
 }
 
 const WORDS: &str = r#"
-#file t.msh
-$MeshFormat
-2.2 0 8
-$EndMeshFormat
-$Nodes
-4
-1 0 0 0
-2 100 0 0
-3 0 100 0
-4 0 0 100
-$EndNodes
-$Elements
-1
-1 4 2 0 1 1 2 3 4
-$EndElements
-
 #file usage
 usage: ipc check DIGITS MESH OUT | run SCENE | gen N
 
@@ -243,7 +180,6 @@ usage: ipc check DIGITS MESH OUT | run SCENE | gen N
 #says 2
 @usage
 #lacks o_0000.msh
-
 "#;
 
 #[test]
@@ -253,30 +189,11 @@ fn words_of_no_command(rt: HostRuntime) -> Result<(), Fail> {
 }
 
 const REFUSED_MESHES: &str = r#"
-#file f.toml
-mesh = "t.msh"
-out = "fall"
-digits = 0
-frames = 3
-budget = 10
-tol = 0
-gravity = [0, 0, -512]
-dhat = 2
-kappa = 1
-[material]
-density = 1
-mu = 0
-lambda = 0
-
-#file head
-$MeshFormat
-2.2 0 8
-$EndMeshFormat
-$Nodes
-4
+#file begin
+@head
 1 0 0 0
 
-#file tail
+#file end
 $EndNodes
 $Elements
 1
@@ -284,11 +201,11 @@ $Elements
 $EndElements
 
 #file t.msh
-@head
+@begin
 2 100 0 0
 3 0 100 0
 4 0 0 -100
-@tail
+@end
 
 #do check 0 t.msh o
 #says 7
@@ -301,11 +218,11 @@ geometry refused: not positive 7
 #lacks fall_0000.msh
 
 #file t.msh
-@head
+@begin
 2 100 0 0
 3 0 100 0
 4 50 50 0
-@tail
+@end
 
 #do check 0 t.msh o
 #says 7
@@ -318,11 +235,11 @@ geometry refused: not positive 7
 #lacks fall_0000.msh
 
 #file t.msh
-@head
+@begin
 2 100 0 0
 3 0 100 0
 4 0 0 26
-@tail
+@end
 
 #do check 0 t.msh o
 #says 7
@@ -335,11 +252,11 @@ geometry refused: thin 7
 #lacks fall_0000.msh
 
 #file t.msh
-@head
+@begin
 2 16385 0 0
 3 0 100 0
 4 0 0 100
-@tail
+@end
 
 #do check 0 t.msh o
 #says 7
@@ -352,11 +269,11 @@ geometry refused: long 7
 #lacks fall_0000.msh
 
 #file t.msh
-@head
+@begin
 2 16384 0
 3 0 100 0
 4 0 0 100
-@tail
+@end
 
 #do check 0 t.msh o
 #says 6
@@ -369,12 +286,12 @@ mesh refused: line 7 fields
 #lacks fall_0000.msh
 
 #file t.msh
-@head
+@begin
 
 1 100 0 0
 3 0 100 0
 x
-@tail
+@end
 
 #do check 0 t.msh o
 #says 6
@@ -385,7 +302,6 @@ mesh refused: line 8 duplicate node
 #says 6
 mesh refused: line 8 duplicate node
 #lacks fall_0000.msh
-
 "#;
 
 #[test]
@@ -395,38 +311,14 @@ fn meshes_that_are_refused(rt: HostRuntime) -> Result<(), Fail> {
 }
 
 const REFUSED_SCENES: &str = r#"
-#file t.msh
-$MeshFormat
-2.2 0 8
-$EndMeshFormat
-$Nodes
-4
-1 0 0 0
-2 100 0 0
-3 0 100 0
-4 0 0 100
-$EndNodes
-$Elements
-1
-1 4 2 0 1 1 2 3 4
-$EndElements
-
-#file names
-mesh = "t.msh"
-out = "fall"
-digits = 0
+#file keys
+@names
 frames = 3
 budget = 10
 dhat = 2
 
-#file material
-[material]
-density = 1
-mu = 0
-lambda = 0
-
 #file f.toml
-@names
+@keys
 kappa = 0
 @material
 
@@ -436,7 +328,7 @@ scene refused: missing key tol
 #lacks fall_0000.msh
 
 #file f.toml
-@names
+@keys
 kappa = 0
 tol = 0
 @material
@@ -447,7 +339,7 @@ scene refused: out of range kappa 0
 #lacks fall_0000.msh
 
 #file f.toml
-@names
+@keys
 kappa = 0
 tol = 0
 kapa = 1
@@ -459,7 +351,7 @@ scene refused: unknown key kapa
 #lacks fall_0000.msh
 
 #file f.toml
-@names
+@keys
 kappa = 1
 tol = 0
 [material]
@@ -473,7 +365,7 @@ scene refused: out of range material.mu 1073741825
 #lacks fall_0000.msh
 
 #file f.toml
-@names
+@keys
 kappa = 1
 tol = 0
 tol = 0
@@ -485,7 +377,7 @@ scene refused: not toml
 #lacks fall_0000.msh
 
 #file f.toml
-@names
+@keys
 kappa = 1
 tol = true
 @material
@@ -494,7 +386,6 @@ tol = true
 #says 5
 scene refused: wrong type tol
 #lacks fall_0000.msh
-
 "#;
 
 #[test]
@@ -504,37 +395,6 @@ fn scenes_that_are_refused(rt: HostRuntime) -> Result<(), Fail> {
 }
 
 const FALL: &str = r#"
-#file t.msh
-$MeshFormat
-2.2 0 8
-$EndMeshFormat
-$Nodes
-4
-1 0 0 0
-2 100 0 0
-3 0 100 0
-4 0 0 100
-$EndNodes
-$Elements
-1
-1 4 2 0 1 1 2 3 4
-$EndElements
-
-#file f.toml
-mesh = "t.msh"
-out = "fall"
-digits = 0
-frames = 3
-budget = 10
-tol = 0
-gravity = [0, 0, -512]
-dhat = 2
-kappa = 1
-[material]
-density = 1
-mu = 0
-lambda = 0
-
 #do run f.toml
 #says 0
 mesh nodes 4 tets 1
@@ -545,52 +405,12 @@ frame 3 converged 1
 #has fall_0000.msh
 @t.msh
 #has fall_0001.msh
-$MeshFormat
-2.2 0 8
-$EndMeshFormat
-$Nodes
-4
-1 0 0 -2
-2 100 0 -2
-3 0 100 -2
-4 0 0 98
-$EndNodes
-$Elements
-1
-1 4 2 0 1 1 2 3 4
-$EndElements
+@fall_1
 #has fall_0002.msh
-$MeshFormat
-2.2 0 8
-$EndMeshFormat
-$Nodes
-4
-1 0 0 -6
-2 100 0 -6
-3 0 100 -6
-4 0 0 94
-$EndNodes
-$Elements
-1
-1 4 2 0 1 1 2 3 4
-$EndElements
+@fall_2
 #has fall_0003.msh
-$MeshFormat
-2.2 0 8
-$EndMeshFormat
-$Nodes
-4
-1 0 0 -12
-2 100 0 -12
-3 0 100 -12
-4 0 0 88
-$EndNodes
-$Elements
-1
-1 4 2 0 1 1 2 3 4
-$EndElements
+@fall_3
 #lacks fall_0004.msh
-
 "#;
 
 #[test]
@@ -600,36 +420,18 @@ fn three_frames_of_fall(rt: HostRuntime) -> Result<(), Fail> {
 }
 
 const NOT_CONVERGED: &str = r#"
-#file t.msh
-$MeshFormat
-2.2 0 8
-$EndMeshFormat
-$Nodes
-4
-1 0 0 0
-2 100 0 0
-3 0 100 0
-4 0 0 100
-$EndNodes
-$Elements
-1
-1 4 2 0 1 1 2 3 4
-$EndElements
-
-#file f.toml
-mesh = "t.msh"
-out = "fall"
-digits = 0
+#file keys
+@names
 frames = 1
 tol = 0
 dhat = 2
 kappa = 1
+
+#file f.toml
+@keys
 budget = 10
 gravity = [0, 0, -300]
-[material]
-density = 1
-mu = 0
-lambda = 0
+@material
 
 #do run f.toml
 #says 1
@@ -637,52 +439,27 @@ mesh nodes 4 tets 1
 frame 0 start
 frame 1 stalled 1
 #has fall_0001.msh
-$MeshFormat
-2.2 0 8
-$EndMeshFormat
-$Nodes
-4
+@head
 1 0 0 -1
 2 100 0 -1
 3 0 100 -1
 4 0 0 99
-$EndNodes
-$Elements
-1
-1 4 2 0 1 1 2 3 4
-$EndElements
+@tail
 
 ## the first two halvings would leave the box
 #file t.msh
-$MeshFormat
-2.2 0 8
-$EndMeshFormat
-$Nodes
-4
+@head
 1 0 0 -1048573
 2 100 0 -1048573
 3 0 100 -1048573
 4 0 0 -1048473
-$EndNodes
-$Elements
-1
-1 4 2 0 1 1 2 3 4
-$EndElements
+@tail
 
 #file f.toml
-mesh = "t.msh"
-out = "fall"
-digits = 0
-frames = 1
-tol = 0
-dhat = 2
-kappa = 1
+@keys
 budget = 1
 gravity = [0, 0, -2048]
-[material]
-density = 1
-mu = 0
-lambda = 0
+@material
 
 #do run f.toml
 #says 1
@@ -690,21 +467,12 @@ mesh nodes 4 tets 1
 frame 0 start
 frame 1 budget 1
 #has fall_0001.msh
-$MeshFormat
-2.2 0 8
-$EndMeshFormat
-$Nodes
-4
+@head
 1 0 0 -1048575
 2 100 0 -1048575
 3 0 100 -1048575
 4 0 0 -1048475
-$EndNodes
-$Elements
-1
-1 4 2 0 1 1 2 3 4
-$EndElements
-
+@tail
 "#;
 
 #[test]
@@ -713,22 +481,10 @@ fn frames_that_do_not_converge(rt: HostRuntime) -> Result<(), Fail> {
     Ok(())
 }
 
+// A file is read as it was before the command, also where a frame takes its place; other files stay.
 const REPLACED: &str = r#"
 #file mesh
-$MeshFormat
-2.2 0 8
-$EndMeshFormat
-$Nodes
-4
-1 0 0 0
-2 100 0 0
-3 0 100 0
-4 0 0 100
-$EndNodes
-$Elements
-1
-1 4 2 0 1 1 2 3 4
-$EndElements
+@t.msh
 
 #file t_0001.msh
 @mesh
@@ -739,23 +495,12 @@ old
 #file t.msh
 old
 
-#file scene
+#file f.toml
 mesh = "t_0001.msh"
 out = "t"
 digits = 0
-frames = 3
-budget = 10
-tol = 0
-gravity = [0, 0, -512]
-dhat = 2
-kappa = 1
-[material]
-density = 1
-mu = 0
-lambda = 0
-
-#file f.toml
-@scene
+@fall
+@material
 
 #do run f.toml
 #says 0
@@ -767,44 +512,16 @@ frame 3 converged 1
 #has t_0000.msh
 @mesh
 #has t_0001.msh
-$MeshFormat
-2.2 0 8
-$EndMeshFormat
-$Nodes
-4
-1 0 0 -2
-2 100 0 -2
-3 0 100 -2
-4 0 0 98
-$EndNodes
-$Elements
-1
-1 4 2 0 1 1 2 3 4
-$EndElements
+@fall_1
 #has t_0002.msh
-$MeshFormat
-2.2 0 8
-$EndMeshFormat
-$Nodes
-4
-1 0 0 -6
-2 100 0 -6
-3 0 100 -6
-4 0 0 94
-$EndNodes
-$Elements
-1
-1 4 2 0 1 1 2 3 4
-$EndElements
+@fall_2
 #lacks t_0004.msh
 #has t.msh
 old
 #has f.toml
-@scene
-
+@f.toml
 "#;
 
-// A file is read as it was before the command, also where a frame takes its place; other files stay.
 #[test]
 fn files_that_are_replaced_and_files_that_stay(rt: HostRuntime) -> Result<(), Fail> {
     assert_eq!(rt; first_fault(rt.alloc(), REPLACED)?, None);
@@ -816,16 +533,8 @@ const NOT_THERE: &str = r#"
 mesh = "u.msh"
 out = "fall"
 digits = 0
-frames = 3
-budget = 10
-tol = 0
-gravity = [0, 0, -512]
-dhat = 2
-kappa = 1
-[material]
-density = 1
-mu = 0
-lambda = 0
+@fall
+@material
 
 #do run g\né.toml
 #says 3
@@ -836,7 +545,6 @@ read fault g???.toml
 #says 3
 read fault u.msh
 #failed u.msh
-
 "#;
 
 #[test]

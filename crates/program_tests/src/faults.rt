@@ -1,90 +1,11 @@
 //! A fault at each call in turn, in a run of three frames, and memory that is wanting.
 
 use crate::desk::Desk;
-use crate::transcript::{first_fault, words_of};
+use crate::transcript::{first_fault, started, words_of};
 use std::alloc::{AllocError, Global};
 use std::test::Fail;
 
 const SHELF_FAULTS: &str = r#"
-#file t.msh
-$MeshFormat
-2.2 0 8
-$EndMeshFormat
-$Nodes
-4
-1 0 0 0
-2 100 0 0
-3 0 100 0
-4 0 0 100
-$EndNodes
-$Elements
-1
-1 4 2 0 1 1 2 3 4
-$EndElements
-
-#file f.toml
-mesh = "t.msh"
-out = "fall"
-digits = 0
-frames = 3
-budget = 10
-tol = 0
-gravity = [0, 0, -512]
-dhat = 2
-kappa = 1
-[material]
-density = 1
-mu = 0
-lambda = 0
-
-#file fall_1
-$MeshFormat
-2.2 0 8
-$EndMeshFormat
-$Nodes
-4
-1 0 0 -2
-2 100 0 -2
-3 0 100 -2
-4 0 0 98
-$EndNodes
-$Elements
-1
-1 4 2 0 1 1 2 3 4
-$EndElements
-
-#file fall_2
-$MeshFormat
-2.2 0 8
-$EndMeshFormat
-$Nodes
-4
-1 0 0 -6
-2 100 0 -6
-3 0 100 -6
-4 0 0 94
-$EndNodes
-$Elements
-1
-1 4 2 0 1 1 2 3 4
-$EndElements
-
-#file fall_3
-$MeshFormat
-2.2 0 8
-$EndMeshFormat
-$Nodes
-4
-1 0 0 -12
-2 100 0 -12
-3 0 100 -12
-4 0 0 88
-$EndNodes
-$Elements
-1
-1 4 2 0 1 1 2 3 4
-$EndElements
-
 ## each call that reads
 #shelf_fails 1
 #do run f.toml
@@ -260,7 +181,6 @@ frame 0 start
 frame 1 converged 1
 frame 2 converged 1
 frame 3 converged 1
-
 "#;
 
 #[test]
@@ -270,37 +190,6 @@ fn shelf_fails_at_each_call(rt: HostRuntime) -> Result<(), Fail> {
 }
 
 const CONSOLE_FAULTS: &str = r#"
-#file t.msh
-$MeshFormat
-2.2 0 8
-$EndMeshFormat
-$Nodes
-4
-1 0 0 0
-2 100 0 0
-3 0 100 0
-4 0 0 100
-$EndNodes
-$Elements
-1
-1 4 2 0 1 1 2 3 4
-$EndElements
-
-#file f.toml
-mesh = "t.msh"
-out = "fall"
-digits = 0
-frames = 3
-budget = 10
-tol = 0
-gravity = [0, 0, -512]
-dhat = 2
-kappa = 1
-[material]
-density = 1
-mu = 0
-lambda = 0
-
 #console_fails 1
 #do run f.toml
 #says 9
@@ -346,7 +235,6 @@ frame 3 converged 1
 #console_fails 1
 #do run f.toml
 #says 9
-
 "#;
 
 #[test]
@@ -355,49 +243,12 @@ fn console_fails_at_each_line(rt: HostRuntime) -> Result<(), Fail> {
     Ok(())
 }
 
-const MESH: &str = r#"$MeshFormat
-2.2 0 8
-$EndMeshFormat
-$Nodes
-4
-1 0 0 0
-2 100 0 0
-3 0 100 0
-4 0 0 100
-$EndNodes
-$Elements
-1
-1 4 2 0 1 1 2 3 4
-$EndElements
-"#;
+const SAID: &[u8] =
+    b"mesh nodes 4 tets 1\nframe 0 start\nframe 1 converged 1\nframe 2 converged 1\nframe 3 converged 1\n";
 
-const SCENE: &str = r#"mesh = "t.msh"
-out = "fall"
-digits = 0
-frames = 3
-budget = 10
-tol = 0
-gravity = [0, 0, -512]
-dhat = 2
-kappa = 1
-[material]
-density = 1
-mu = 0
-lambda = 0
-"#;
-
-const SAID: &str = r#"mesh nodes 4 tets 1
-frame 0 start
-frame 1 converged 1
-frame 2 converged 1
-frame 3 converged 1
-"#;
-
-// A run of three frames of fall.
+// What a run of three frames of fall leaves.
 fn fallen(alloc: Global) -> Result<Desk, AllocError> {
-    let mut desk = Desk::new(alloc);
-    desk.put("t.msh", String::from_str(alloc, MESH)?)?;
-    desk.put("f.toml", String::from_str(alloc, SCENE)?)?;
+    let mut desk = started(alloc)?;
     desk.obey(&words_of(alloc, "run f.toml")?)?;
     Ok(desk)
 }
@@ -410,6 +261,6 @@ fn frames_or_want_of_memory(rt: HostRuntime) {
         return;
     };
     let stopped = desk.status == 8 || desk.status == 4 || desk.status == 9;
-    let whole = desk.status == 0 && desk.said() == SAID.as_bytes();
+    let whole = desk.status == 0 && desk.said() == SAID;
     assert!(rt; stopped || whole, "status {}", desk.status);
 }

@@ -3,8 +3,9 @@
 use crate::transcript::first_fault;
 use std::test::Fail;
 
-// A tetrahedron that is fixed, with corners at 0 and at 100 along each axis. A second one starts ten grid units before the
-// first one's face, with a corner ahead, or a grid unit before it.
+// A tetrahedron is fixed, with corners at 0 and at 100 along each axis. A second one starts ten grid units before the first
+// one's face, with a corner ahead. Each step is halved until it ends before the face, the last one to a single grid unit.
+// Whole halvings of what is left then pass through the face, or end on it.
 const FLIGHTS: &str = r#"
 #file first
 $MeshFormat
@@ -58,10 +59,7 @@ dhat = 2
 kappa = 1
 frames = 2
 budget = 10
-[material]
-density = 1
-mu = 0
-lambda = 0
+@material
 [[part]]
 tag = 1
 fixed = true
@@ -118,17 +116,15 @@ frame 1 converged 1
 frame 2 converged 1
 #has o_0002.msh
 @past
-
 "#;
 
-// Each step is halved until it ends before the face, the last one to a single grid unit. Whole halvings of what is left
-// then pass through the face, or end on it.
 #[test]
 fn bodies_that_fly_at_one_another_stop_before_they_meet(rt: HostRuntime) -> Result<(), Fail> {
     assert_eq!(rt; first_fault(rt.alloc(), FLIGHTS)?, None);
     Ok(())
 }
 
+// A soft tetrahedron hangs on the fixed one by a face. The numbers are those of a short program in Python.
 const SPRING: &str = r#"
 #file first
 $MeshFormat
@@ -194,17 +190,17 @@ frame 6 stalled 1
 @first
 5 110 110 70
 @elements
-
 "#;
 
-// A soft tetrahedron hangs on the fixed one by a face. The numbers are those of a short program in Python.
 #[test]
 fn a_soft_body_springs_back(rt: HostRuntime) -> Result<(), Fail> {
     assert_eq!(rt; first_fault(rt.alloc(), SPRING)?, None);
     Ok(())
 }
 
-// A tetrahedron whose upper face is to be slid on, and a smaller one above it.
+// A soft tetrahedron is thrown along the upper face of a larger one, which is fixed, and pressed on it by its weight.
+// Without friction it goes on, with a coefficient of a half it comes to rest after 74 grid units, with one of 2 after 2. The
+// numbers are those of a program in Python.
 const SLIDES: &str = r#"
 #file plate
 $MeshFormat
@@ -233,7 +229,7 @@ $EndElements
 8 100 100 106
 @elements
 
-#file numbers
+#file keys
 mesh = "t.msh"
 out = "o"
 digits = 0
@@ -258,7 +254,7 @@ velocity = [30, 0, 0]
 
 ## no friction
 #file f.toml
-@numbers
+@keys
 @parts
 
 #do run f.toml
@@ -281,7 +277,7 @@ frame 6 stalled 2
 
 ## a coefficient of a half
 #file f.toml
-@numbers
+@keys
 friction = 128
 @parts
 
@@ -305,7 +301,7 @@ frame 6 stalled 2
 
 ## a coefficient of 2
 #file f.toml
-@numbers
+@keys
 friction = 512
 slip = 1
 @parts
@@ -327,12 +323,8 @@ frame 6 stalled 0
 7 101 200 6
 8 104 102 108
 @elements
-
 "#;
 
-// A soft tetrahedron is thrown along a fixed face and pressed on it by its weight. Without friction it goes on, with a
-// coefficient of a half it comes to rest after 74 grid units, with one of 2 after 2. The numbers are those of a program
-// in Python.
 #[test]
 fn friction_ends_a_slide(rt: HostRuntime) -> Result<(), Fail> {
     assert_eq!(rt; first_fault(rt.alloc(), SLIDES)?, None);

@@ -3,6 +3,7 @@
 use crate::transcript::first_fault;
 use std::test::Fail;
 
+// A second tetrahedron beside the first, which has corners at 0 and at 100 along each axis.
 const SECOND_BODY: &str = r#"
 #file first
 $MeshFormat
@@ -117,10 +118,8 @@ geometry refused: meets VT 5 / 1 2 3
 #do check 0 t.msh o
 #says 7
 geometry refused: meets ET 5 8 / 1 2 3
-
 "#;
 
-// A second tetrahedron beside the first, which has corners at 0 and at 100 along each axis.
 #[test]
 fn bodies_that_meet_and_bodies_that_do_not(rt: HostRuntime) -> Result<(), Fail> {
     assert_eq!(rt; first_fault(rt.alloc(), SECOND_BODY)?, None);
@@ -167,7 +166,6 @@ $EndElements
 #says 6
 surface refused: face same 11 12
 #lacks o_0000.msh
-
 "#;
 
 #[test]

@@ -4,37 +4,16 @@ use crate::transcript::first_fault;
 use std::test::Fail;
 
 const STEPS: &str = r#"
-#file t.msh
-$MeshFormat
-2.2 0 8
-$EndMeshFormat
-$Nodes
-4
-1 0 0 0
-2 100 0 0
-3 0 100 0
-4 0 0 100
-$EndNodes
-$Elements
-1
-1 4 2 0 1 1 2 3 4
-$EndElements
-
 #file f.toml
-mesh = "t.msh"
-out = "fall"
-digits = 0
+@names
 trace = "tr"
 frames = 1
 budget = 10
-tol = 0
 gravity = [0, 0, -300]
+tol = 0
 dhat = 2
 kappa = 1
-[material]
-density = 1
-mu = 0
-lambda = 0
+@material
 
 #do run f.toml
 #says 1
@@ -54,36 +33,23 @@ end stalled 1
 
 ## The first two halvings would leave the box. The trace has the direction before it was halved.
 #file t.msh
-$MeshFormat
-2.2 0 8
-$EndMeshFormat
-$Nodes
-4
+@head
 1 0 0 -1048573
 2 100 0 -1048573
 3 0 100 -1048573
 4 0 0 -1048473
-$EndNodes
-$Elements
-1
-1 4 2 0 1 1 2 3 4
-$EndElements
+@tail
 
 #file f.toml
-mesh = "t.msh"
-out = "fall"
-digits = 0
+@names
 trace = "tr"
 frames = 1
 budget = 1
-tol = 0
 gravity = [0, 0, -2048]
+tol = 0
 dhat = 2
 kappa = 1
-[material]
-density = 1
-mu = 0
-lambda = 0
+@material
 
 #do run f.toml
 #says 1
@@ -100,7 +66,6 @@ step newton 2 256000000 144000000
 3 0 0 -8
 4 0 0 -8
 end budget 1
-
 "#;
 
 #[test]
@@ -110,36 +75,15 @@ fn steps_are_written(rt: HostRuntime) -> Result<(), Fail> {
 }
 
 const NO_STEPS: &str = r#"
-#file t.msh
-$MeshFormat
-2.2 0 8
-$EndMeshFormat
-$Nodes
-4
-1 0 0 0
-2 100 0 0
-3 0 100 0
-4 0 0 100
-$EndNodes
-$Elements
-1
-1 4 2 0 1 1 2 3 4
-$EndElements
-
 #file f.toml
-mesh = "t.msh"
-out = "fall"
-digits = 0
+@names
 trace = "tr"
 frames = 2
 budget = 10
 tol = 0
 dhat = 2
 kappa = 1
-[material]
-density = 1
-mu = 0
-lambda = 0
+@material
 
 #do run f.toml
 #says 0
@@ -156,7 +100,6 @@ trace 1
 frame 2
 end converged 0
 #lacks tr_0003.txt
-
 "#;
 
 #[test]
@@ -165,54 +108,26 @@ fn frames_without_steps_have_traces(rt: HostRuntime) -> Result<(), Fail> {
     Ok(())
 }
 
+// The trace isn't there, is empty, or is whole; its frame is whole, and isn't said.
 const TRACE_FAULTS: &str = r#"
-#file t.msh
-$MeshFormat
-2.2 0 8
-$EndMeshFormat
-$Nodes
-4
-1 0 0 0
-2 100 0 0
-3 0 100 0
-4 0 0 100
-$EndNodes
-$Elements
-1
-1 4 2 0 1 1 2 3 4
-$EndElements
-
 #file moved
-$MeshFormat
-2.2 0 8
-$EndMeshFormat
-$Nodes
-4
+@head
 1 0 0 -1
 2 100 0 -1
 3 0 100 -1
 4 0 0 99
-$EndNodes
-$Elements
-1
-1 4 2 0 1 1 2 3 4
-$EndElements
+@tail
 
 #file f.toml
-mesh = "t.msh"
-out = "fall"
-digits = 0
+@names
 trace = "tr"
 frames = 1
 budget = 10
-tol = 0
 gravity = [0, 0, -300]
+tol = 0
 dhat = 2
 kappa = 1
-[material]
-density = 1
-mu = 0
-lambda = 0
+@material
 
 #shelf_fails 13
 #do run f.toml
@@ -254,16 +169,15 @@ step newton 0 5493164 118164
 end stalled 1
 #has fall_0001.msh
 @moved
-
 "#;
 
-// The trace isn't there, is empty, or is whole; its frame is whole, and isn't said.
 #[test]
 fn shelf_fails_at_a_trace(rt: HostRuntime) -> Result<(), Fail> {
     assert_eq!(rt; first_fault(rt.alloc(), TRACE_FAULTS)?, None);
     Ok(())
 }
 
+// The one block is held.
 const ONE_BLOCK: &str = r#"
 #do gen 1
 #says 0
@@ -273,10 +187,8 @@ frame 1 converged 0
 sum 400 400 400
 #lacks gen_0000.msh
 #lacks gen_0001.msh
-
 "#;
 
-// The one block is held.
 #[test]
 fn one_block_stands(rt: HostRuntime) -> Result<(), Fail> {
     assert_eq!(rt; first_fault(rt.alloc(), ONE_BLOCK)?, None);
@@ -284,7 +196,7 @@ fn one_block_stands(rt: HostRuntime) -> Result<(), Fail> {
 }
 
 const FOUR_BLOCKS: &str = r#"
-#file fallen
+#file said
 mesh nodes 32 tets 24
 frame 0 start
 frame 1 stalled 6
@@ -292,12 +204,11 @@ sum 1760 1600 6896
 
 #do gen 4
 #says 1
-@fallen
+@said
 
 #do gen 4
 #says 1
-@fallen
-
+@said
 "#;
 
 #[test]

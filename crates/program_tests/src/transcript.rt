@@ -2,6 +2,7 @@
 //!
 //! A line that begins with `#` is an order, and the lines up to the next order are its text. In a text a line `@NAME`
 //! stands for the text of the file NAME, and empty lines at the end don't count. `\n` and `\t` are a line feed and a tab.
+//! Each transcript goes on after `START`.
 //!
 //! | order | |
 //! |---|---|
@@ -17,14 +18,33 @@
 //! | `## ..` | a remark |
 
 use crate::desk::Desk;
+use crate::start::START;
 use std::alloc::{AllocError, Global};
+use std::test::Fail;
 
 /// The first order that doesn't hold, with its text and the number of its line, counted from 1.
 pub fn first_fault(alloc: Global, transcript: &str) -> Result<Option<(usize, &str)>, AllocError> {
+    let mut desk = started(alloc)?;
+    play(alloc, &mut desk, transcript)
+}
+
+/// A desk with the files of `START`.
+pub fn started(alloc: Global) -> Result<Desk, AllocError> {
     let mut desk = Desk::new(alloc);
+    // It has no order that may not hold.
+    let _ = play(alloc, &mut desk, START)?;
+    Ok(desk)
+}
+
+// Does what each order says, up to the first that doesn't hold.
+fn play<'a>(
+    alloc: Global,
+    desk: &mut Desk,
+    transcript: &'a str,
+) -> Result<Option<(usize, &'a str)>, AllocError> {
     let mut line: usize = 1;
     for (number, piece) in transcript.split("\n#").enumerate() {
-        if number > 0 && !holds(alloc, &mut desk, piece)? {
+        if number > 0 && !holds(alloc, desk, piece)? {
             return Ok(Some((line, piece)));
         }
         line = line.saturating_add(piece.split('\n').count());
@@ -139,4 +159,21 @@ fn named<'a>(desk: &'a Desk, line: &str) -> Option<&'a str> {
 fn unescaped(alloc: Global, text: &str) -> Result<String, AllocError> {
     text.replace(alloc, "\\n", "\n")?
         .replace(alloc, "\\t", "\t")
+}
+
+#[test]
+fn what_does_not_hold_is_found(rt: HostRuntime) -> Result<(), Fail> {
+    for (transcript, line) in [
+        ("\n#do\n#says 0", 3),
+        ("\n#do\n#says 2\nusage", 3),
+        ("\n#do\n\n#has t.msh", 4),
+        ("\n#do\n#lacks t.msh", 3),
+        ("\n#do\n#failed t.msh", 3),
+        ("\n#file a\nb\nc\n\n#do\n#has a\nb", 7),
+        ("\n#done", 2),
+    ] {
+        let fault = first_fault(rt.alloc(), transcript)?;
+        assert_eq!(rt; fault.map(|(number, _)| number), Some(line), "{transcript}");
+    }
+    Ok(())
 }
