@@ -1,100 +1,102 @@
-//! A shelf and a console in memory, and the texts of the worked cases.
+//! A shelf and a console in memory, and the last command on them.
 
 use ipc_top::ipc_run;
 use shelf_io::{MemShelf, MemSink};
 use std::alloc::{AllocError, Global};
 
-/// A mesh before its nodes, and after them.
-pub const HEAD: &str = "$MeshFormat\n2.2 0 8\n$EndMeshFormat\n$Nodes\n4\n";
+#[derive(Drop)]
+struct File {
+    name: String,
+    text: String,
+}
 
-pub const TAIL: &str = "$EndNodes\n$Elements\n1\n1 4 2 0 1 1 2 3 4\n$EndElements\n";
-
-/// The nodes of a tetrahedron, and of those that it falls to in three frames.
-pub const NODES: &str = "1 0 0 0\n2 100 0 0\n3 0 100 0\n4 0 0 100\n";
-
-pub const NODES_1: &str = "1 0 0 -2\n2 100 0 -2\n3 0 100 -2\n4 0 0 98\n";
-
-pub const NODES_2: &str = "1 0 0 -6\n2 100 0 -6\n3 0 100 -6\n4 0 0 94\n";
-
-pub const NODES_3: &str = "1 0 0 -12\n2 100 0 -12\n3 0 100 -12\n4 0 0 88\n";
-
-/// A scene's names, how it falls, and its material.
-pub const NAMES: &str = "mesh = \"t.msh\"\nout = \"fall\"\ndigits = 0\n";
-
-pub const FALL: &str =
-    "frames = 3\nbudget = 10\ntol = 0\ngravity = [0, 0, -512]\ndhat = 2\nkappa = 1\n";
-
-pub const MATERIAL: &str = "[material]\ndensity = 1\nmu = 0\nlambda = 0\n";
-
-pub const CHECK: [&str; 4] = ["check", "0", "t.msh", "o"];
-
-pub const RUN: [&str; 2] = ["run", "f.toml"];
-
-/// The lines of a mesh that is accepted, and of three frames of fall.
-pub const ACCEPTED: &str = "mesh nodes 4 tets 1\nframe 0 start\n";
-
-pub const LINES: [&str; 5] = [
-    "mesh nodes 4 tets 1\n",
-    "frame 0 start\n",
-    "frame 1 converged 1\n",
-    "frame 2 converged 1\n",
-    "frame 3 converged 1\n",
-];
-
-/// A shelf, a console, and the status of the last command on them.
+/// The files that a command finds, and what the last command did with them.
 #[derive(Drop)]
 pub struct Desk {
     alloc: Global,
-    pub shelf: MemShelf,
-    pub console: MemSink,
+    files: Vec<File>,
+    shelf_fault: u64,
+    console_fault: u64,
+    shelf: MemShelf,
+    console: MemSink,
+    /// The status of the last command.
     pub status: u8,
 }
 
 impl Desk {
-    /// A desk with this mesh and this scene, each given in pieces.
-    pub fn new(alloc: Global, mesh: &[&str], scene: &[&str]) -> Result<Desk, AllocError> {
-        let mut shelf = MemShelf::new(alloc);
-        shelf.put("t.msh", whole(alloc, mesh)?.as_bytes())?;
-        shelf.put("f.toml", whole(alloc, scene)?.as_bytes())?;
-        Ok(Desk {
+    /// No file, and no command yet.
+    pub fn new(alloc: Global) -> Self {
+        Desk {
             alloc,
-            shelf,
+            files: Vec::new(alloc),
+            shelf_fault: 0,
+            console_fault: 0,
+            shelf: MemShelf::new(alloc),
             console: MemSink::new(alloc),
             status: 255,
-        })
+        }
     }
 
-    /// Does what these words ask for.
-    pub fn obey(&mut self, list: &[&str]) -> Result<(), AllocError> {
-        let mut words = Vec::new(self.alloc);
-        for word in list {
-            words.push(String::from_str(self.alloc, word)?)?;
-        }
-        self.status = ipc_run(self.alloc, &words, &mut self.shelf, &mut self.console);
+    /// Adds a file that each later command finds, in the place of one of its name.
+    pub fn put(&mut self, name: &str, text: String) -> Result<(), AllocError> {
+        let name = String::from_str(self.alloc, name)?;
+        self.files.push(File { name, text })?;
         Ok(())
     }
 
-    /// Whether it ended with this status and this console, which is given in pieces.
-    pub fn says(&self, status: u8, console: &[&str]) -> Result<bool, AllocError> {
-        let said = whole(self.alloc, console)?;
-        Ok(self.status == status && self.console.bytes() == said.as_bytes())
+    /// The text of the file of this name that commands find.
+    pub fn text(&self, name: &str) -> Option<&str> {
+        for file in self.files.iter().rev() {
+            if file.name.as_str() == name {
+                return Some(file.text.as_str());
+            }
+        }
+        None
     }
 
-    /// Whether the file has this text, which is given in pieces, or isn't there.
-    pub fn has(&self, name: &str, text: Option<&[&str]>) -> Result<bool, AllocError> {
-        match (self.shelf.file(name), text) {
-            (Some(bytes), Some(pieces)) => Ok(bytes == whole(self.alloc, pieces)?.as_bytes()),
-            (None, None) => Ok(true),
-            _ => Ok(false),
-        }
+    /// Lets the shelf of the next command fail at this call. The calls are numbered from 1.
+    pub fn fail_shelf_at(&mut self, call: u64) {
+        self.shelf_fault = call;
+    }
+
+    /// Lets the console of the next command fail at this call.
+    pub fn fail_console_at(&mut self, call: u64) {
+        self.console_fault = call;
+    }
+
+    /// Does what these words ask for, with the files that were put and an empty console.
+    pub fn obey(&mut self, words: &[String]) -> Result<(), AllocError> {
+        self.shelf = filled(self.alloc, &self.files)?;
+        self.shelf.fail_at(self.shelf_fault)?;
+        self.console = MemSink::new(self.alloc);
+        self.console.fail_at(self.console_fault)?;
+        self.shelf_fault = 0;
+        self.console_fault = 0;
+        self.status = ipc_run(self.alloc, words, &mut self.shelf, &mut self.console);
+        Ok(())
+    }
+
+    /// What the last command said.
+    pub fn said(&self) -> &[u8] {
+        self.console.bytes()
+    }
+
+    /// The bytes of a file after the last command, if it is there.
+    pub fn left(&self, name: &str) -> Option<&[u8]> {
+        self.shelf.file(name)
+    }
+
+    /// The name of the file at which the last command failed, if it did.
+    pub fn failed_name(&self) -> Option<&str> {
+        self.shelf.failed_name()
     }
 }
 
-/// The pieces one after another.
-pub fn whole(alloc: Global, pieces: &[&str]) -> Result<String, AllocError> {
-    let mut text = String::new(alloc);
-    for piece in pieces {
-        text.push_str(piece)?;
+// A shelf with these files.
+fn filled(alloc: Global, files: &[File]) -> Result<MemShelf, AllocError> {
+    let mut shelf = MemShelf::new(alloc);
+    for file in files {
+        shelf.put(file.name.as_str(), file.text.as_bytes())?;
     }
-    Ok(text)
+    Ok(shelf)
 }

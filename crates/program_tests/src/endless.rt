@@ -1,7 +1,6 @@
 //! Files that have no end.
 ghost use Rattle.shelf_io.specs.Shelf.{nothing_told};
 
-use crate::desk::{CHECK, RUN};
 use ipc_top::ipc_run;
 use shelf_io::{Failed, MemSink, Shelf};
 use std::test::Fail;
@@ -50,8 +49,16 @@ impl Shelf for Endless {
 #[test]
 fn files_that_are_too_long(rt: HostRuntime) -> Result<(), Fail> {
     let cases = [
-        (CHECK.as_slice(), "too long t.msh 268435457\n", 268_435_457),
-        (RUN.as_slice(), "too long f.toml 1048577\n", 1_048_577),
+        (
+            ["check", "0", "t.msh", "o"].as_slice(),
+            "too long t.msh 268435457\n",
+            268_435_457,
+        ),
+        (
+            ["run", "f.toml"].as_slice(),
+            "too long f.toml 1048577\n",
+            1_048_577,
+        ),
     ];
     for (list, line, taken) in cases {
         let mut shelf = Endless {

@@ -13,6 +13,10 @@ mod faults;
 #[cfg(test)]
 mod motions;
 #[cfg(test)]
+mod start;
+#[cfg(test)]
 mod surfaces;
 #[cfg(test)]
 mod traces;
+#[cfg(test)]
+mod transcript;

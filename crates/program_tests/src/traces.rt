@@ -1,118 +1,218 @@
 //! Worked cases of traces, and of the stated stack.
 
-use crate::desk::{ACCEPTED, Desk, HEAD, MATERIAL, NAMES, NODES, RUN, TAIL};
-use std::alloc::Global;
+use crate::transcript::first_fault;
 use std::test::Fail;
 
-const TRACE: &str = "trace = \"tr\"\n";
+const STEPS: &str = r#"
+#file f.toml
+@names
+trace = "tr"
+frames = 1
+budget = 10
+gravity = [0, 0, -300]
+tol = 0
+dhat = 2
+kappa = 1
+@material
 
-const STILL: &str = "frames = 2\nbudget = 10\ntol = 0\ndhat = 2\nkappa = 1\n";
+#do run f.toml
+#says 1
+mesh nodes 4 tets 1
+frame 0 start
+frame 1 stalled 1
+#lacks tr_0000.txt
+#has tr_0001.txt
+trace 1
+frame 1
+step newton 0 5493164 118164
+1 0 0 -1
+2 0 0 -1
+3 0 0 -1
+4 0 0 -1
+end stalled 1
 
-const SLOW: &str =
-    "frames = 1\nbudget = 10\ntol = 0\ngravity = [0, 0, -300]\ndhat = 2\nkappa = 1\n";
+## The first two halvings would leave the box. The trace has the direction before it was halved.
+#file t.msh
+@head
+1 0 0 -1048573
+2 100 0 -1048573
+3 0 100 -1048573
+4 0 0 -1048473
+@tail
 
-const FAST: &str =
-    "frames = 1\nbudget = 1\ntol = 0\ngravity = [0, 0, -2048]\ndhat = 2\nkappa = 1\n";
+#file f.toml
+@names
+trace = "tr"
+frames = 1
+budget = 1
+gravity = [0, 0, -2048]
+tol = 0
+dhat = 2
+kappa = 1
+@material
 
-const LOW: &str = "1 0 0 -1048573\n2 100 0 -1048573\n3 0 100 -1048573\n4 0 0 -1048473\n";
+#do run f.toml
+#says 1
+mesh nodes 4 tets 1
+frame 0 start
+frame 1 budget 1
+#lacks tr_0000.txt
+#has tr_0001.txt
+trace 1
+frame 1
+step newton 2 256000000 144000000
+1 0 0 -8
+2 0 0 -8
+3 0 0 -8
+4 0 0 -8
+end budget 1
+"#;
 
-const ONE_STEP: &str =
-    "trace 1\nframe 1\nstep newton 0 5493164 118164\n1 0 0 -1\n2 0 0 -1\n3 0 0 -1\n4 0 0 -1\nend stalled 1\n";
-
-const HALVED_STEP: &str =
-    "trace 1\nframe 1\nstep newton 2 256000000 144000000\n1 0 0 -8\n2 0 0 -8\n3 0 0 -8\n4 0 0 -8\nend budget 1\n";
-
-// What a run of one tetrahedron says and does, with traces.
-fn traced(alloc: Global, nodes: &str, scene: &str, call: u64) -> Result<Desk, Fail> {
-    let mut desk = Desk::new(
-        alloc,
-        &[HEAD, nodes, TAIL],
-        &[NAMES, TRACE, scene, MATERIAL],
-    )?;
-    desk.shelf.fail_at(call)?;
-    desk.obey(&RUN)?;
-    Ok(desk)
-}
-
-// In the second case the first two halvings would leave the box; the trace has the direction before it was halved.
 #[test]
 fn steps_are_written(rt: HostRuntime) -> Result<(), Fail> {
-    let table = [
-        (NODES, SLOW, "frame 1 stalled 1\n", ONE_STEP),
-        (LOW, FAST, "frame 1 budget 1\n", HALVED_STEP),
-    ];
-    for (nodes, scene, line, trace) in table {
-        let desk = traced(rt.alloc(), nodes, scene, 0)?;
-        assert!(rt; desk.says(1, &[ACCEPTED, line])?);
-        assert!(rt; desk.has("tr_0000.txt", None)?);
-        assert!(rt; desk.has("tr_0001.txt", Some(&[trace]))?);
-    }
+    assert_eq!(rt; first_fault(rt.alloc(), STEPS)?, None);
     Ok(())
 }
 
+const NO_STEPS: &str = r#"
+#file f.toml
+@names
+trace = "tr"
+frames = 2
+budget = 10
+tol = 0
+dhat = 2
+kappa = 1
+@material
+
+#do run f.toml
+#says 0
+mesh nodes 4 tets 1
+frame 0 start
+frame 1 converged 0
+frame 2 converged 0
+#has tr_0001.txt
+trace 1
+frame 1
+end converged 0
+#has tr_0002.txt
+trace 1
+frame 2
+end converged 0
+#lacks tr_0003.txt
+"#;
+
 #[test]
 fn frames_without_steps_have_traces(rt: HostRuntime) -> Result<(), Fail> {
-    let desk = traced(rt.alloc(), NODES, STILL, 0)?;
-    assert!(rt; desk.says(0, &[ACCEPTED, "frame 1 converged 0\nframe 2 converged 0\n"])?);
-    assert!(rt;
-        desk.has(
-            "tr_0001.txt",
-            Some(&["trace 1\nframe 1\nend converged 0\n"])
-        )?
-    );
-    assert!(rt;
-        desk.has(
-            "tr_0002.txt",
-            Some(&["trace 1\nframe 2\nend converged 0\n"])
-        )?
-    );
-    assert!(rt; desk.has("tr_0003.txt", None)?);
+    assert_eq!(rt; first_fault(rt.alloc(), NO_STEPS)?, None);
     Ok(())
 }
 
 // The trace isn't there, is empty, or is whole; its frame is whole, and isn't said.
+const TRACE_FAULTS: &str = r#"
+#file moved
+@head
+1 0 0 -1
+2 100 0 -1
+3 0 100 -1
+4 0 0 99
+@tail
+
+#file f.toml
+@names
+trace = "tr"
+frames = 1
+budget = 10
+gravity = [0, 0, -300]
+tol = 0
+dhat = 2
+kappa = 1
+@material
+
+#shelf_fails 13
+#do run f.toml
+#says 4
+mesh nodes 4 tets 1
+frame 0 start
+write fault tr_0001.txt
+#failed tr_0001.txt
+#lacks tr_0001.txt
+#has fall_0001.msh
+@moved
+
+#shelf_fails 14
+#do run f.toml
+#says 4
+mesh nodes 4 tets 1
+frame 0 start
+write fault tr_0001.txt
+#failed tr_0001.txt
+#has tr_0001.txt
+#has fall_0001.msh
+@moved
+
+#shelf_fails 15
+#do run f.toml
+#says 4
+mesh nodes 4 tets 1
+frame 0 start
+write fault tr_0001.txt
+#failed tr_0001.txt
+#has tr_0001.txt
+trace 1
+frame 1
+step newton 0 5493164 118164
+1 0 0 -1
+2 0 0 -1
+3 0 0 -1
+4 0 0 -1
+end stalled 1
+#has fall_0001.msh
+@moved
+"#;
+
 #[test]
 fn shelf_fails_at_a_trace(rt: HostRuntime) -> Result<(), Fail> {
-    let table: [(u64, Option<&[&str]>); 3] = [(13, None), (14, Some(&[])), (15, Some(&[ONE_STEP]))];
-    let moved = "1 0 0 -1\n2 100 0 -1\n3 0 100 -1\n4 0 0 99\n";
-    for (call, left) in table {
-        let desk = traced(rt.alloc(), NODES, SLOW, call)?;
-        assert!(rt; desk.says(4, &[ACCEPTED, "write fault tr_0001.txt\n"])?);
-        assert!(rt; desk.shelf.failed_name() == Some("tr_0001.txt"));
-        assert!(rt; desk.has("tr_0001.txt", left)?);
-        assert!(rt; desk.has("fall_0001.msh", Some(&[HEAD, moved, TAIL]))?);
-    }
+    assert_eq!(rt; first_fault(rt.alloc(), TRACE_FAULTS)?, None);
     Ok(())
-}
-
-// What the stated stack of so many blocks says.
-fn stack(alloc: Global, blocks: &str) -> Result<Desk, Fail> {
-    let mut desk = Desk::new(alloc, &[], &[])?;
-    desk.obey(&["gen", blocks])?;
-    Ok(desk)
 }
 
 // The one block is held.
+const ONE_BLOCK: &str = r#"
+#do gen 1
+#says 0
+mesh nodes 8 tets 6
+frame 0 start
+frame 1 converged 0
+sum 400 400 400
+#lacks gen_0000.msh
+#lacks gen_0001.msh
+"#;
+
 #[test]
 fn one_block_stands(rt: HostRuntime) -> Result<(), Fail> {
-    let desk = stack(rt.alloc(), "1")?;
-    let lines = "mesh nodes 8 tets 6\nframe 0 start\nframe 1 converged 0\nsum 400 400 400\n";
-    assert!(rt; desk.says(0, &[lines])?);
-    assert!(rt; desk.has("gen_0000.msh", None)? && desk.has("gen_0001.msh", None)?);
+    assert_eq!(rt; first_fault(rt.alloc(), ONE_BLOCK)?, None);
     Ok(())
 }
 
+const FOUR_BLOCKS: &str = r#"
+#file said
+mesh nodes 32 tets 24
+frame 0 start
+frame 1 stalled 6
+sum 1760 1600 6896
+
+#do gen 4
+#says 1
+@said
+
+#do gen 4
+#says 1
+@said
+"#;
+
 #[test]
 fn a_stack_falls_alike_each_time(rt: HostRuntime) -> Result<(), Fail> {
-    let first = stack(rt.alloc(), "4")?;
-    let second = stack(rt.alloc(), "4")?;
-    assert!(rt; first.status <= 1 && first.status == second.status);
-    assert!(rt; first.console.bytes() == second.console.bytes());
-    assert!(rt;
-        first
-            .console
-            .bytes()
-            .starts_with(b"mesh nodes 32 tets 24\nframe 0 start\nframe 1 ")
-    );
+    assert_eq!(rt; first_fault(rt.alloc(), FOUR_BLOCKS)?, None);
     Ok(())
 }
