@@ -1,5 +1,5 @@
 -- The ascending positions of the boxes that touch in the cells of both levels are the near positions.
-use Rattle.std.proofs.Common.{◌≡◌, ◌∙◌, ℕ, ◌+◌, ◌<◌, ◌≤◌, Bool, true, false, not, List, [], ◌++◌, length, get_or, ap, sym, subst, arith, inl, inr}
+use Rattle.std.proofs.Common.{◌≡◌, ◌∙◌, ℕ, ◌<◌, true, false, not, List, [], ◌++◌, length, get_or, ap, sym, subst, arith, inl, inr}
 use Rattle.std.specs.Prelude.{IsTrue, filter}
 use Rattle.std.specs.List.{range_with_len, All, Contains}
 use Rattle.std.specs.List.Sorted.{IsStrictlyIncreasing}
@@ -7,7 +7,6 @@ use Rattle.std.proofs.lemmas.Bool.{cases_Bool}
 use Rattle.std.proofs.lemmas.List.Elements.{All-contains, Contains-get_or}
 use Rattle.std.proofs.lemmas.List.Sorted.{All-permutation, Contains-permutation}
 use Rattle.space3.specs.declared.boxes.BoundingBox.{BoundingBox}
-use Rattle.box_grid.specs.declared.cells.Cells.{Cells}
 use Rattle.box_grid.specs.declared.entries.Entry.{Entry}
 use Rattle.box_grid.specs.declared.sizes.Level.{Level}
 use Rattle.box_grid.specs.Near.{LiesInTheBox, box_at, near_positions}

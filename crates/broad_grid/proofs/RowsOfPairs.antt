@@ -1,30 +1,27 @@
 -- The near pairs by their first parts are a filter of the pair order.
-use Rattle.std.proofs.Common.{◌≡◌, ◌∙◌, ℕ, ◌+◌, Bool, true, false, ◌&&◌, cond, List, [], ◌∷◌, ◌++◌, map, length, get_or, ap, sym, refl, append_assoc}
-use Rattle.std.specs.List.{filter, flat_map, range_with_len}
+use Rattle.std.proofs.Common.{◌≡◌, ◌∙◌, ℕ, ◌+◌, ◌<◌, Bool, true, false, ◌&&◌, cond, List, [], ◌∷◌, ◌++◌, map, length, get_or, ap, sym, subst, refl, append_assoc, arith}
+use Rattle.std.specs.List.{All, filter, flat_map, range_with_len}
 use Rattle.std.proofs.Math.ListN.{get_or-map}
-use Rattle.std.proofs.lemmas.Bool.{and_parts}
 use Rattle.std.proofs.lemmas.List.{length-map}
-use Rattle.std.proofs.lemmas.Option.{slice_get-get_or}
+use Rattle.std.proofs.lemmas.List.Elements.{All-filter}
+use Rattle.list_laws.proofs.CountedWrites.{All-counted}
 use Rattle.list_laws.proofs.Filters.{filter-flat_map, filter-map}
 use Rattle.list_laws.proofs.Pushes.{flat_map_counted_more}
 use Rattle.space3.specs.declared.boxes.BoundingBox.{BoundingBox}
 use Rattle.space3.specs.declared.vectors.V3.{V3}
 use Rattle.space3.specs.Boxes.{are_within}
-use Rattle.space3.specs.Vectors.{origin}
 use Rattle.boundary.specs.declared.pairs.Pair.{Pair}
 use Rattle.boundary.specs.declared.pairs.PairKind.{PairKind}
 use Rattle.boundary.specs.declared.pairs.PairKind.TheVariants.{VE, VT, EE, ET}
 use Rattle.boundary.specs.Pairs.{all_pairs, counts, first_parts, kinds, pair_of, pairs_of_kind, second_parts}
 use Rattle.boundary.specs.Surface.{SurfaceLists}
-use Rattle.box_grid.specs.Near.{AreCandidates, OnlyNearPass}
-use Rattle.box_grid.specs.Calls.Cells.{box_at}
-use Rattle.box_grid.proofs.Service.{pass_as_all_positions}
+use Rattle.box_grid.specs.Near.{box_at, near_positions}
 use Rattle.broad_grid.specs.declared.boxes.PartBoxes.{PartBoxes}
 use Rattle.broad_grid.specs.declared.near.FirstPart.{FirstPart}
 use Rattle.broad_grid.specs.NearPairs.{are_boxes_within, close_pairs_of, is_close}
 use Rattle.broad_grid.specs.PartBoxes.{part_box, swept_box}
 use Rattle.broad_grid.specs.Calls.Boxes.{HasBoxes, first_boxes, second_boxes}
-use Rattle.broad_grid.specs.Calls.Rows.{is_near, near_pairs_with, near_row, near_rows, near_rows_of_kinds}
+use Rattle.broad_grid.specs.Calls.Rows.{first_part, near_row, near_rows, near_rows_of_kinds}
 use Rattle.broad_grid.specs.Calls.Walk.{near_pairs_of}
 use Rattle.broad_grid.proofs.BoxesInTheBox.{around_itself}
 
@@ -47,6 +44,10 @@ filter-filter {A = A} p q (x ∷ xs) =
     one : (b : Bool) → filter p (cond b (x ∷ filter q xs) (filter q xs)) ≡ cond (p x && b) (x ∷ filter p (filter q xs)) (filter p (filter q xs))
     one true = sym (ap (λ t. cond t (x ∷ filter p (filter q xs)) (filter p (filter q xs))) (and_true (p x)))
     one false = sym (ap (λ t. cond t (x ∷ filter p (filter q xs)) (filter p (filter q xs))) (and_false (p x)))
+
+and_turned : (a b : Bool) → (a && b) ≡ (b && a)
+and_turned true b = sym (and_true b)
+and_turned false b = sym (and_false b)
 
 none_pass : {A : Type 0} (xs : List A) → filter (λ x. false) xs ≡ []
 none_pass [] = refl
@@ -71,6 +72,15 @@ by_rows p s kind =
     ∙ (λ i. flat_map (λ a. filter-map both (pair_of kind a) (range_with_len 0 n) i) (range_with_len 0 m))
 
 -- ---- the rows of boxes
+-- the near positions that count
+near_that_count : (reach : ℕ) (s : SurfaceLists) (first : FirstPart) (boxes : List BoundingBox) →
+    near_row reach s first boxes ≡ map (pair_of first.kind first.a) (filter (λ b. are_within reach first.around (box_at boxes b) && counts s (pair_of first.kind first.a b)) (range_with_len 0 (length boxes)))
+near_that_count reach s first boxes =
+    let near : ℕ → Bool = λ b. are_within reach first.around (box_at boxes b) in
+    let count : ℕ → Bool = λ b. counts s (pair_of first.kind first.a b) in
+    let positions = range_with_len 0 (length boxes) in
+    ap (map (pair_of first.kind first.a)) (filter-filter count near positions ∙ (λ i. filter (λ b. and_turned (count b) (near b) i) positions))
+
 -- the boxes of parts, in place of their nodes
 rows_of_boxes : (reach : ℕ) (s : SurfaceLists) (x0 x1 : List V3) (kind : PairKind) (firsts seconds : List BoundingBox) → firsts ≡ map (swept_box x0 x1) (first_parts s kind) → seconds ≡ map (swept_box x0 x1) (second_parts s kind) →
     near_rows reach s kind firsts seconds ≡ rows_that_pass (are_boxes_within reach s x0 x1) s kind
@@ -80,7 +90,8 @@ rows_of_boxes reach s x0 x1 kind firsts seconds e f =
     let n : length seconds ≡ length (second_parts s kind) = ap length f ∙ length-map (second_parts s kind) sweep in
     let first : (a : ℕ) → box_at firsts a ≡ sweep (get_or (first_parts s kind) a []) = λ a. ap (λ l. box_at l a) e ∙ get_or-map sweep (first_parts s kind) a [] in
     let second : (b : ℕ) → box_at seconds b ≡ sweep (get_or (second_parts s kind) b []) = λ b. ap (λ l. box_at l b) f ∙ get_or-map sweep (second_parts s kind) b [] in
-    λ i. flat_map (λ a. map (pair_of kind a) (filter (λ b. are_within reach (first a i) (second b i) && counts s (pair_of kind a b)) (range_with_len 0 (n i)))) (range_with_len 0 (m i))
+    (λ i. flat_map (λ a. near_that_count reach s (first_part kind firsts a) seconds i) (range_with_len 0 (length firsts)))
+    ∙ (λ i. flat_map (λ a. map (pair_of kind a) (filter (λ b. are_within reach (first a i) (second b i) && counts s (pair_of kind a b)) (range_with_len 0 (n i)))) (range_with_len 0 (m i)))
 
 vertices_first : (s : SurfaceLists) (x0 x1 : List V3) (boxes : PartBoxes) → HasBoxes s x0 x1 boxes → boxes.vertices.items ≡ map (swept_box x0 x1) (map (λ vertex. vertex ∷ []) s.vertices)
 vertices_first s x0 x1 boxes h = h.vertices ∙ composed s.vertices
@@ -140,19 +151,12 @@ close_as_near reach s x =
     ∙ sym (filter-flat_map close (pairs_of_kind s) kinds)
 
 -- ---- the walk
--- the candidates that are near are all that are near
-pub row_of_candidates : (reach : ℕ) (s : SurfaceLists) (first : FirstPart) (grid boxes : List BoundingBox) (found list : List ℕ) → boxes ≡ grid → list ≡ found → AreCandidates reach first.around grid found →
-    near_pairs_with reach s first boxes list ≡ near_row reach s first grid
-row_of_candidates reach s first grid boxes found list e f c =
-    (λ i. map (pair_of first.kind first.a) (filter (is_near reach s first (e i)) (f i)))
-    ∙ ap (map (pair_of first.kind first.a)) (pass_as_all_positions reach first.around grid found c (is_near reach s first grid) only_near)
-  where
-    only_near : OnlyNearPass reach first.around grid (is_near reach s first grid)
-    only_near i l t = record {
-      box = box_at grid i;
-      stands = slice_get-get_or grid i (record { least = origin; greatest = origin }) l;
-      near = (and_parts _ _ t).0;
-    }
+-- near positions are those of second parts
+pub near_are_there : (reach : ℕ) (around : BoundingBox) (boxes : List BoundingBox) (found list : List ℕ) (n : ℕ) → found ≡ near_positions reach around boxes → list ≡ found → length boxes ≡ n → All (λ b. b < n) list
+near_are_there reach around boxes found list n is same many =
+    subst (All (λ b. b < n)) (sym (same ∙ is))
+    (All-filter (λ i. are_within reach around (box_at boxes i)) (λ b. b < n) (range_with_len 0 (length boxes))
+    (All-counted (λ b. b < n) (length boxes) (λ b l. omega (arith, many))))
 
 -- one row more
 pub rows_more : (row : ℕ → List Pair) (a : ℕ) (start before after last : List Pair) → before ≡ start ++ flat_map row (range_with_len 0 a) → last ≡ row a → after ≡ before ++ last → after ≡ start ++ flat_map row (range_with_len 0 (a + 1))

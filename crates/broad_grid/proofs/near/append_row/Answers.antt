@@ -1,11 +1,6 @@
-use Rattle.std.proofs.Common.{◌≡◌, ◌++◌, List, subst}
-use Rattle.std.specs.Prelude.{IfOk}
-use Rattle.boundary.specs.declared.pairs.Pair.{Pair}
-use Rattle.broad_grid.proofs.RowsOfPairs.{row_of_candidates}
+use Rattle.broad_grid.proofs.RowsOfPairs.{near_are_there}
 use Rattle.broad_grid.proofs.near.append_row.Goals as goal
 
-pub returns-clause-pairs : goal.returns-clause-pairs
-returns-clause-pairs c =
-    subst (λ (row : List Pair). IfOk c.append_near.result (λ done. c.append_near.new.pairs.items ≡ c.args.pairs.now.items ++ row))
-    (row_of_candidates c.args.reach c.args.surface.now c.args.first c.args.grid.now c.boxes.result.now c.near.new.found.items
-    c.deref.result.now c.boxes.ensures.boxes c.deref.ensures.value c.in_ok-near.ensures) c.append_near.ensures.pairs
+pub append_pairs-requires-clause-there : goal.append_pairs-requires-clause-there
+append_pairs-requires-clause-there c =
+    near_are_there c.args.reach c.args.first.around c.args.grid.now c.near.new.found.items c.deref.result.now _ c.in_ok-compared.ensures.found c.deref.ensures.value c.requires.seconds
