@@ -4,3 +4,4 @@ pub mod Pulls
 pub mod Sizes
 pub mod SmoothLengths
 pub mod Standing
+pub mod Unloaded

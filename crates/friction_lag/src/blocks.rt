@@ -10,7 +10,7 @@ ghost use Rattle.friction_lag.specs.Friction.{block_of, blocks_of, friction_bloc
 ghost use Rattle.friction_lag.specs.Lagged.{lagged_in};
 
 use crate::contacts::Contact;
-use crate::friction::{drag_of, entry, unit_times};
+use crate::friction::{drag_of, entry, is_unloaded, unit_times};
 use crate::slide::slide_of;
 use near_pair::weight_at;
 use num_q::Q;
@@ -28,6 +28,9 @@ pub fn friction_blocks(
     requires placed { All IsInTheBox x.now }
     ensures { result ≡ friction_blocks (lagged_in c.now) friction slip x.now }
 {
+    if is_unloaded(c, friction) {
+        return [[[[0; 3]; 3]; 4]; 4];
+    }
     let drag = drag_of(c, friction, slip, slide_of(c, x));
     all_blocks(drag, &c.signed)
 }

@@ -1,5 +1,5 @@
 //! Energy, gradient and block.
-ghost use Rattle.std.specs.Prelude.{◌≡◌, ◌<◌, ◌^◌, ◌*ℤ◌, ◌≤ℤ◌, pos, map, All, slice_index_or, unsigned_abs};
+ghost use Rattle.std.specs.Prelude.{◌≡◌, ◌↔◌, IsTrue, ◌<◌, ◌^◌, ◌*ℤ◌, ◌≤ℤ◌, pos, map, All, slice_index_or, unsigned_abs};
 ghost use Rattle.whole_laws.specs.Ranges.{IsFrom};
 ghost use Rattle.num_q.specs.Rounding.{cut_of, floor_of};
 ghost use Rattle.space3.specs.Box.{IsInTheBox};
@@ -45,6 +45,9 @@ fn energy_number(c: &Contact, friction: i64, slip: i64, x: &[V3; 4]) -> Q<1, 90>
     ensures value { result.raw ≡ friction_energy (lagged_in c.now) friction slip x.now }
     ensures least { friction_energy (lagged_in c.now) friction slip c.now.from ≤ℤ result.raw }
 {
+    if is_unloaded(c, friction) {
+        return Q::of_raw(0);
+    }
     let y = length_of(slide_of(c, x));
     energy_along(load_of(c, friction), smooth_length(y, slip_of(slip)))
 }
@@ -70,6 +73,14 @@ fn load_of(c: &Contact, friction: i64) -> Q<9, 70>
     exact.narrowed_into()
 }
 
+// Whether the coefficient or the force is 0, so that there is no friction.
+pub(crate) fn is_unloaded(c: &Contact, friction: i64) -> bool
+    requires { IsFrom (pos 0) MOST_FRICTION friction }
+    ensures { IsTrue result ↔ friction *ℤ c.now.force ≡ pos 0 }
+{
+    load_of(c, friction).raw() == 0
+}
+
 /// The gradient of friction at each of the four points. Along each axis the four numbers add up to 0 but for
 /// roundings. Ranges are those of the energy.
 pub fn friction_gradient(c: &Contact, friction: i64, slip: i64, x: &[V3; 4]) -> [[i128; 3]; 4]
@@ -80,6 +91,9 @@ pub fn friction_gradient(c: &Contact, friction: i64, slip: i64, x: &[V3; 4]) -> 
     ensures cancelling { AlmostCancel
         (friction_gradient (lagged_in c.now) friction slip x.now) }
 {
+    if is_unloaded(c, friction) {
+        return [[0; 3]; 4];
+    }
     let slide = slide_of(c, x);
     let drag = drag_of(c, friction, slip, slide);
     pulls(drag, slide, &c.signed)

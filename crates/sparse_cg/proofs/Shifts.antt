@@ -1,10 +1,8 @@
 -- The shift of slopes, and the sizes that it leaves.
-use Rattle.std.proofs.Common.{◌≡◌, ℕ, ◌+◌, ◌*◌, ◌≤◌, ◌<◌, ◌^◌, ℤ, pos, negsuc, neg_ℤ, ◌*ℤ◌, ◌≤ℤ◌, ◌<ℤ◌, unsigned_abs, max, List, length, map, take, get_or, arith, subst, sym}
-use Rattle.std.specs.Prelude.{All}
-use Rattle.std.proofs.lemmas.Int.{clamps, ints}
-use Rattle.std.specs.Int.{int_max}
+use Rattle.std.proofs.Common.{◌≡◌, ℕ, ◌+◌, ◌*◌, ◌≤◌, ◌<◌, ◌^◌, ℤ, pos, negsuc, neg_ℤ, ◌*ℤ◌, ◌≤ℤ◌, ◌<ℤ◌, unsigned_abs, max, List, length, take, get_or, arith, subst, sym}
+use Rattle.std.proofs.lemmas.Int.{ints}
 use Rattle.std.proofs.lemmas.Nat.{pow-add, pow_pos}
-use Rattle.std.proofs.lemmas.List.Elements.{All-map, All-more, All-weaker}
+use Rattle.std.proofs.lemmas.List.Elements.{All-more, All-weaker}
 use Rattle.list_laws.proofs.Elements.{All-take_at, All-take_less}
 use Rattle.whole_laws.proofs.Floors.{floor_below, floor_least}
 use Rattle.num_q.specs.Rounding.{floor_of}
@@ -44,10 +42,3 @@ within z d positive h =
 
 pub target_short : (shift : ℕ) (z q : ℤ) → unsigned_abs z < 2 ^ (40 + shift) → q ≡ floor_of (neg_ℤ z) (pos (2 ^ shift)) → unsigned_abs q < 2 ^ 44
 target_short shift z q h e = subst (λ (y : ℤ). unsigned_abs y < 2 ^ 44) (sym e) (within z (2 ^ shift) (pow_pos shift) (omega (arith, pow-add 2 40 shift)))
-
--- what is at least 1 is above 0
-pub max_positive : (es : List ℤ) → All (λ x. pos 0 <ℤ x) (map (int_max (pos 1)) es)
-max_positive es = All-map (λ x. pos 0 <ℤ x) (int_max (pos 1)) es (λ k d there. one_or_more (get_or es k d))
-  where
-    one_or_more : (a : ℤ) → pos 0 <ℤ int_max (pos 1) a
-    one_or_more a = omega (arith, ints, clamps)

@@ -3,12 +3,12 @@ ghost use Rattle.std.specs.Prelude.{◌≡◌, ◌+◌, ◌^◌, ◌≤◌, ◌<
 ghost use Rattle.space3.specs.Vectors.{AtMost};
 ghost use Rattle.sparse_cg.specs.Systems.{combined, quotient_of};
 ghost use Rattle.sparse_cg.specs.Turns.{dot, moved};
-ghost use Rattle.sparse_cg.specs.Calls.Lists.{ArePositive, AreShort, left_over, shortened};
+ghost use Rattle.sparse_cg.specs.Calls.Lists.{AreShort, left_over, numbers_of, shortened};
 
 use crate::numbers::{
     divisor_at, kept, left_over, moved, number_at, power, product_at, quotient, shortened,
 };
-use num_q::Q;
+use num_q::{Divisor, Q};
 
 // Adds to each number so much of another.
 pub(crate) fn move_along(numbers: &mut [i64], ways: &[i64], share: Q<20, 60>)
@@ -25,13 +25,12 @@ pub(crate) fn move_along(numbers: &mut [i64], ways: &[i64], share: Q<20, 60>)
 }
 
 // Writes the numbers over their divisors.
-pub(crate) fn write_quotients(out: &mut [i64], numbers: &[i64], divisors: &[i64], shift: u32)
+pub(crate) fn write_quotients(out: &mut [i64], numbers: &[i64], divisors: &[Divisor], shift: u32)
     requires shift { shift ≤ 60 }
     requires each { length numbers.now ≡ length out.old }
     requires each_divisor { length divisors.now ≡ length out.old }
     requires numbers { AreShort numbers.now }
-    requires divisors { ArePositive divisors.now }
-    ensures value { out.new ≡ combined (quotient_of shift) numbers.now divisors.now }
+    ensures value { out.new ≡ combined (quotient_of shift) numbers.now (numbers_of divisors.now) }
     ensures short { AreShort out.new }
 {
     let power = power(shift);

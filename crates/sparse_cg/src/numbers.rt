@@ -6,9 +6,9 @@ ghost use Rattle.space3.specs.Vectors.{AtMost};
 ghost use Rattle.vec_q.specs.Raws.{raws};
 ghost use Rattle.vec_q.specs.Widths.{IsBelow};
 ghost use Rattle.sparse_cg.specs.Turns.{moved, ratio};
-ghost use Rattle.sparse_cg.specs.Calls.Lists.{ArePositive, AreShort, left_over, shortened};
+ghost use Rattle.sparse_cg.specs.Calls.Lists.{AreShort, left_over, numbers_of, shortened};
 
-use num_q::Q;
+use num_q::{Divisor, Q};
 use space3::V3;
 use vec_q::VecQ;
 
@@ -23,13 +23,11 @@ pub(crate) fn moved(share: Q<20, 60>, number: Q<0, 44>, way: Q<0, 44>) -> Q<0, 4
 }
 
 // A number with 16 fraction bits over a divisor; the power is that of these bits and the shift.
-pub(crate) fn quotient(power: Q<0, 77>, number: Q<0, 44>, divisor: Q<0, 64>) -> Q<0, 44>
-    requires { pos 0 <ℤ divisor.raw }
-    ensures { result.raw ≡ cut_of 44 (floor_of (number.raw *ℤ power.raw) divisor.raw) }
+pub(crate) fn quotient(power: Q<0, 77>, number: Q<0, 44>, divisor: Divisor) -> Q<0, 44>
+    ensures { result.raw ≡ cut_of 44 (floor_of (number.raw *ℤ power.raw) (pos divisor.number)) }
 {
     let exact: Q<0, 121> = number.mul_into(power);
-    let whole: Q<0, 121> = exact.div_floor_into::<0, 0, 64, 0, 121>(divisor);
-    whole.cut_into()
+    exact.floor_by(divisor).cut_into()
 }
 
 // The power of two for a shift.
@@ -89,13 +87,11 @@ pub(crate) fn number_at(list: &[i64], i: usize) -> Q<0, 44>
 }
 
 // The divisor at a place of a list.
-pub(crate) fn divisor_at(list: &[i64], i: usize) -> Q<0, 64>
-    requires there { i < length list.now }
-    requires positive { ArePositive list.now }
-    ensures value { result.raw ≡ slice_index_or list.now i (pos 0) }
-    ensures positive { pos 0 <ℤ result.raw }
+pub(crate) fn divisor_at(list: &[Divisor], i: usize) -> Divisor
+    requires { i < length list.now }
+    ensures { pos result.number ≡ slice_index_or (numbers_of list.now) i (pos 0) }
 {
-    Q::of_raw(list[i] as i128)
+    list[i]
 }
 
 // The number at a place of a product.

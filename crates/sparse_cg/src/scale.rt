@@ -1,20 +1,19 @@
 //! The system of a matrix and a gradient: by how many bits it is shortened, its right side and the
 //! divisors.
-ghost use Rattle.std.specs.Prelude.{◌≡◌, ℕ, ◌+◌, ◌*◌, ◌^◌, ◌≤◌, ◌<◌, pos, ◌<ℤ◌, neg_ℤ, map, length, slice_index_or, slice_set, unsigned_abs};
+ghost use Rattle.std.specs.Prelude.{◌≡◌, ℕ, ◌+◌, ◌*◌, ◌^◌, ◌≤◌, ◌<◌, [], ◌∷◌, pos, neg_ℤ, map, length, slice_index_or, slice_set, unsigned_abs};
 ghost use Rattle.std.specs.Int.{int_max};
 ghost use Rattle.num_q.specs.Rounding.{cut_of, floor_of};
 ghost use Rattle.vec_q.specs.Rows.{components};
 ghost use Rattle.block_rows.specs.Stored.{nodes_of, table_of};
 ghost use Rattle.block_rows.specs.Tables.{diagonal_of};
 ghost use Rattle.sparse_cg.specs.Systems.{FitAt, IsShift, divisors_of, system_of, target_of};
-ghost use Rattle.sparse_cg.specs.Calls.Lists.{ArePositive, AreShort, IsGreatest};
+ghost use Rattle.sparse_cg.specs.Calls.Lists.{AreShort, IsGreatest, numbers_of};
 ghost use Rattle.sparse_cg.specs.Calls.States.{IsTask, system_in};
 
 use crate::numbers::{at_least_one, entries, kept};
 use crate::state::Task;
 use block_rows::Rows;
-use num_q::Q;
-use space3::V3;
+use num_q::{Divisor, Q};
 
 // Makes the system of a matrix and a gradient.
 pub(crate) fn prepare(task: &mut Task, rows: &Rows, slopes: &[i128])
@@ -111,10 +110,9 @@ fn shifted(number: Q<0, 100>, shift: u32) -> Q<0, 101>
     Q::of_raw(number.raw() >> shift)
 }
 
-fn write_divisors(out: &mut [i64], rows: &Rows)
+fn write_divisors(out: &mut [Divisor], rows: &Rows)
     requires { length out.old ≡ 3 * nodes_of rows.now }
-    ensures value { out.new ≡ divisors_of (nodes_of rows.now) (table_of rows.now) }
-    ensures positive { ArePositive out.new }
+    ensures { numbers_of out.new ≡ divisors_of (nodes_of rows.now) (table_of rows.now) }
 {
     for node in 0..rows.nodes() {
         let divisors = divisors_at(rows, node);
@@ -122,34 +120,41 @@ fn write_divisors(out: &mut [i64], rows: &Rows)
     }
 }
 
-// Writes three numbers from a place on.
-fn write_three(out: &mut [i64], first: usize, v: V3)
+// Writes the divisors of a node from a place on.
+fn write_three(out: &mut [Divisor], first: usize, node: NodeDivisors)
     requires room { first + 2 < length out.old }
-    ensures { out.new ≡ slice_set (slice_set (slice_set out.old first v.x) (first + 1) v.y)
-        (first + 2) v.z }
+    ensures { out.new ≡ slice_set (slice_set (slice_set out.old first node.x) (first + 1) node.y)
+        (first + 2) node.z }
 {
-    out[first] = v.x;
-    out[first + 1] = v.y;
-    out[first + 2] = v.z;
+    out[first] = node.x;
+    out[first + 1] = node.y;
+    out[first + 2] = node.z;
+}
+
+// The divisors of a node's three numbers.
+#[derive(Clone, Copy)]
+struct NodeDivisors {
+    x: Divisor,
+    y: Divisor,
+    z: Divisor,
 }
 
 // The diagonal entries of a node, where they are at least 1.
-fn divisors_at(rows: &Rows, node: u32) -> V3
+fn divisors_at(rows: &Rows, node: u32) -> NodeDivisors
     requires { node < nodes_of rows.now }
-    ensures { components result ≡ map (int_max (pos 1))
-        (components (diagonal_of (table_of rows.now node node))) }
+    ensures { (pos result.x.number ∷ pos result.y.number ∷ pos result.z.number ∷ [])
+        ≡ map (int_max (pos 1)) (components (diagonal_of (table_of rows.now node node))) }
 {
     let diagonal = entries(rows.diagonal(node));
-    V3 {
+    NodeDivisors {
         x: divisor_of(diagonal.x),
         y: divisor_of(diagonal.y),
         z: divisor_of(diagonal.z),
     }
 }
 
-fn divisor_of(entry: Q<0, 62>) -> i64
-    ensures value { result ≡ int_max (pos 1) entry.raw }
-    ensures small { unsigned_abs result < 2 ^ 62 }
+fn divisor_of(entry: Q<0, 62>) -> Divisor
+    ensures { pos result.number ≡ int_max (pos 1) entry.raw }
 {
-    at_least_one(entry).raw() as i64
+    Divisor::of(at_least_one(entry).raw() as u64)
 }

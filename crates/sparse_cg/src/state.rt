@@ -1,11 +1,11 @@
 //! Work arrays.
-use num_q::Q;
+use num_q::{Divisor, Q};
 
 /// What a search is for: the right side, the divisors, and by how many bits both are shortened.
 #[derive(Drop)]
 pub(crate) struct Task {
     pub target: Vec<i64>,
-    pub divisors: Vec<i64>,
+    pub divisors: Vec<Divisor>,
     pub shift: u32,
 }
 

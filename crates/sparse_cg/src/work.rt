@@ -4,7 +4,7 @@ ghost use Rattle.space3.specs.Vectors.{Within, origin};
 ghost use Rattle.space3.specs.declared.ways.TheConstants.{DIRECTION_LIMIT};
 
 use crate::state::{State, Task};
-use num_q::Q;
+use num_q::{Divisor, Q};
 use space3::V3;
 use std::alloc::{AllocError, Global};
 use std::marker::Model;
@@ -57,7 +57,7 @@ fn open_task(alloc: Global, count: usize) -> Result<Task, AllocError>
     ensures divisors { IfOk result (λ made. length made.divisors.items ≡ count) }
 {
     let target = zeros(alloc, count)?;
-    let divisors = zeros(alloc, count)?;
+    let divisors = ones(alloc, count)?;
     Ok(Task {
         target,
         divisors,
@@ -94,6 +94,16 @@ fn zeros(alloc: Global, count: usize) -> Result<Vec<i64>, AllocError>
     let mut made = Vec::with_capacity(alloc, count)?;
     for _ in 0..count {
         made.push(0)?;
+    }
+    Ok(made)
+}
+
+fn ones(alloc: Global, count: usize) -> Result<Vec<Divisor>, AllocError>
+    ensures { IfOk result (λ made. length made.items ≡ count) }
+{
+    let mut made = Vec::with_capacity(alloc, count)?;
+    for _ in 0..count {
+        made.push(Divisor::of(1))?;
     }
     Ok(made)
 }

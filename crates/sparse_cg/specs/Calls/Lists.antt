@@ -1,14 +1,15 @@
 -- Lists of numbers that are written element by element.
-use Rattle.std.specs.Prelude.{ℕ, ◌≤◌, ◌<◌, ◌+◌, ◌^◌, ℤ, pos, ◌<ℤ◌, ◌-ℤ◌, neg_ℤ, List, All, unsigned_abs}
+use Rattle.std.specs.Prelude.{ℕ, ◌≤◌, ◌<◌, ◌+◌, ◌^◌, ℤ, pos, ◌-ℤ◌, neg_ℤ, List, map, All, unsigned_abs}
 use Rattle.num_q.specs.Rounding.{floor_of, cut_of}
+use Rattle.num_q.specs.declared.divisors.Divisor.{Divisor}
 
 -- all numbers are below 2^44 in absolute value
 abbrev pub AreShort : List ℤ → Type 0
 AreShort xs = All (λ x. unsigned_abs x < 2 ^ 44) xs
 
--- all numbers are above 0
-abbrev pub ArePositive : List ℤ → Type 0
-ArePositive xs = All (λ x. pos 0 <ℤ x) xs
+-- the numbers that are divided by
+abbrev pub numbers_of : List Divisor → List ℤ
+numbers_of divisors = map (λ divisor. pos divisor.number) divisors
 
 -- a number of a product, with so many bits less, cut; and what is left of the right side
 abbrev pub shortened : (shift : ℕ) → ℤ → ℤ

@@ -9,7 +9,7 @@ use Rattle.sparse_cg.specs.declared.state.State.{State}
 use Rattle.sparse_cg.specs.declared.state.Task.{Task}
 use Rattle.sparse_cg.specs.Systems.{System}
 use Rattle.sparse_cg.specs.Turns.{Numbers}
-use Rattle.sparse_cg.specs.Calls.Lists.{ArePositive}
+use Rattle.sparse_cg.specs.Calls.Lists.{numbers_of}
 
 abbrev pub system_in : List (List Entry) → Task → System
 system_in rows task = record {
@@ -17,7 +17,7 @@ system_in rows task = record {
   table = table_of rows;
   shift = task.shift;
   target = task.target.items;
-  divisors = task.divisors.items;
+  divisors = numbers_of task.divisors.items;
 }
 
 abbrev pub numbers_in : State → Numbers
@@ -29,7 +29,6 @@ pub record IsTask (nodes : ℕ) (task : Task) : Type 0 where
   pub shift : task.shift ≤ 60
   pub target : IsVector nodes task.target.items
   pub each_divisor : length task.divisors.items ≡ 3 * nodes
-  pub positive : ArePositive task.divisors.items
 
 -- arrays of three numbers for each of so many nodes
 pub record HasRoom (nodes : ℕ) (state : State) : Type 0 where
