@@ -62,6 +62,9 @@ fn play<'a>(
 fn meets(alloc: Global, desk: &mut Desk, piece: &str) -> Result<bool, AllocError> {
     let (line, lines) = piece.split_once('\n').unwrap_or((piece, ""));
     let (order, rest) = line.split_once(' ').unwrap_or((line, ""));
+    if !takes_text(order) && !lines.trim_end_matches('\n').is_empty() {
+        return Ok(false);
+    }
     match order {
         "#" => Ok(true),
         "file" => put(alloc, desk, rest, lines, "\n"),
@@ -69,6 +72,14 @@ fn meets(alloc: Global, desk: &mut Desk, piece: &str) -> Result<bool, AllocError
         "shelf_fails" | "console_fails" => Ok(plans_fault(desk, order, rest)),
         "do" => obeys(alloc, desk, rest),
         _ => is_left(alloc, desk, order, rest, lines),
+    }
+}
+
+// Whether lines may stand below an order.
+fn takes_text(order: &str) -> bool {
+    match order {
+        "#" | "file" | "crlf" | "says" | "has" => true,
+        _ => false,
     }
 }
 
@@ -177,6 +188,7 @@ fn what_does_not_hold_is_found(rt: HostRuntime) -> Result<(), AllocError> {
         ("\n#do\n#failed t.msh", 3),
         ("\n#file a\nb\nc\n\n#do\n#has a\nb", 7),
         ("\n#done", 2),
+        ("\n#do\n0", 2),
     ] {
         let fault = first_fault(rt.alloc(), transcript)?;
         assert_eq!(rt; fault.map(|(number, _)| number), Some(line), "{transcript}");
