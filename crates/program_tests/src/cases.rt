@@ -1,7 +1,7 @@
 //! Worked cases: words, a mesh and a scene, and how the command ends.
 
-use crate::transcript::first_fault;
-use std::test::Fail;
+use crate::transcript::holds;
+use std::alloc::AllocError;
 
 const ACCEPTED: &str = r#"
 #do check 0 t.msh o
@@ -34,9 +34,8 @@ frame 0 start
 "#;
 
 #[test]
-fn meshes_that_are_accepted(rt: HostRuntime) -> Result<(), Fail> {
-    assert_eq!(rt; first_fault(rt.alloc(), ACCEPTED)?, None);
-    Ok(())
+fn meshes_that_are_accepted(rt: HostRuntime) -> Result<(), AllocError> {
+    holds(&rt, rt.alloc(), ACCEPTED)
 }
 
 // A tetrahedron with edges of 0.1, with the names and the triangle that Gmsh writes, and lines that end with CR LF.
@@ -122,9 +121,8 @@ mesh refused: line 11 off grid
 "#;
 
 #[test]
-fn a_mesh_with_decimals(rt: HostRuntime) -> Result<(), Fail> {
-    assert_eq!(rt; first_fault(rt.alloc(), DECIMALS)?, None);
-    Ok(())
+fn a_mesh_with_decimals(rt: HostRuntime) -> Result<(), AllocError> {
+    holds(&rt, rt.alloc(), DECIMALS)
 }
 
 const WORDS: &str = r#"
@@ -183,9 +181,8 @@ usage: ipc check DIGITS MESH OUT | run SCENE | gen N
 "#;
 
 #[test]
-fn words_of_no_command(rt: HostRuntime) -> Result<(), Fail> {
-    assert_eq!(rt; first_fault(rt.alloc(), WORDS)?, None);
-    Ok(())
+fn words_of_no_command(rt: HostRuntime) -> Result<(), AllocError> {
+    holds(&rt, rt.alloc(), WORDS)
 }
 
 const REFUSED_MESHES: &str = r#"
@@ -305,9 +302,8 @@ mesh refused: line 8 duplicate node
 "#;
 
 #[test]
-fn meshes_that_are_refused(rt: HostRuntime) -> Result<(), Fail> {
-    assert_eq!(rt; first_fault(rt.alloc(), REFUSED_MESHES)?, None);
-    Ok(())
+fn meshes_that_are_refused(rt: HostRuntime) -> Result<(), AllocError> {
+    holds(&rt, rt.alloc(), REFUSED_MESHES)
 }
 
 const REFUSED_SCENES: &str = r#"
@@ -389,9 +385,8 @@ scene refused: wrong type tol
 "#;
 
 #[test]
-fn scenes_that_are_refused(rt: HostRuntime) -> Result<(), Fail> {
-    assert_eq!(rt; first_fault(rt.alloc(), REFUSED_SCENES)?, None);
-    Ok(())
+fn scenes_that_are_refused(rt: HostRuntime) -> Result<(), AllocError> {
+    holds(&rt, rt.alloc(), REFUSED_SCENES)
 }
 
 const FALL: &str = r#"
@@ -414,9 +409,8 @@ frame 3 converged 1
 "#;
 
 #[test]
-fn three_frames_of_fall(rt: HostRuntime) -> Result<(), Fail> {
-    assert_eq!(rt; first_fault(rt.alloc(), FALL)?, None);
-    Ok(())
+fn three_frames_of_fall(rt: HostRuntime) -> Result<(), AllocError> {
+    holds(&rt, rt.alloc(), FALL)
 }
 
 const NOT_CONVERGED: &str = r#"
@@ -476,9 +470,8 @@ frame 1 budget 1
 "#;
 
 #[test]
-fn frames_that_do_not_converge(rt: HostRuntime) -> Result<(), Fail> {
-    assert_eq!(rt; first_fault(rt.alloc(), NOT_CONVERGED)?, None);
-    Ok(())
+fn frames_that_do_not_converge(rt: HostRuntime) -> Result<(), AllocError> {
+    holds(&rt, rt.alloc(), NOT_CONVERGED)
 }
 
 // A file is read as it was before the command, also where a frame takes its place; other files stay.
@@ -523,9 +516,8 @@ old
 "#;
 
 #[test]
-fn files_that_are_replaced_and_files_that_stay(rt: HostRuntime) -> Result<(), Fail> {
-    assert_eq!(rt; first_fault(rt.alloc(), REPLACED)?, None);
-    Ok(())
+fn files_that_are_replaced_and_files_that_stay(rt: HostRuntime) -> Result<(), AllocError> {
+    holds(&rt, rt.alloc(), REPLACED)
 }
 
 const NOT_THERE: &str = r#"
@@ -548,7 +540,6 @@ read fault u.msh
 "#;
 
 #[test]
-fn files_that_are_not_there(rt: HostRuntime) -> Result<(), Fail> {
-    assert_eq!(rt; first_fault(rt.alloc(), NOT_THERE)?, None);
-    Ok(())
+fn files_that_are_not_there(rt: HostRuntime) -> Result<(), AllocError> {
+    holds(&rt, rt.alloc(), NOT_THERE)
 }

@@ -1,9 +1,8 @@
 //! A fault at each call in turn, in a run of three frames, and memory that is wanting.
 
 use crate::desk::Desk;
-use crate::transcript::{first_fault, started, words_of};
+use crate::transcript::{holds, started, words_of};
 use std::alloc::{AllocError, Global};
-use std::test::Fail;
 
 const SHELF_FAULTS: &str = r#"
 ## each call that reads
@@ -184,9 +183,8 @@ frame 3 converged 1
 "#;
 
 #[test]
-fn shelf_fails_at_each_call(rt: HostRuntime) -> Result<(), Fail> {
-    assert_eq!(rt; first_fault(rt.alloc(), SHELF_FAULTS)?, None);
-    Ok(())
+fn shelf_fails_at_each_call(rt: HostRuntime) -> Result<(), AllocError> {
+    holds(&rt, rt.alloc(), SHELF_FAULTS)
 }
 
 const CONSOLE_FAULTS: &str = r#"
@@ -238,9 +236,8 @@ frame 3 converged 1
 "#;
 
 #[test]
-fn console_fails_at_each_line(rt: HostRuntime) -> Result<(), Fail> {
-    assert_eq!(rt; first_fault(rt.alloc(), CONSOLE_FAULTS)?, None);
-    Ok(())
+fn console_fails_at_each_line(rt: HostRuntime) -> Result<(), AllocError> {
+    holds(&rt, rt.alloc(), CONSOLE_FAULTS)
 }
 
 const SAID: &[u8] =

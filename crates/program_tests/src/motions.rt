@@ -1,7 +1,7 @@
 //! Worked cases of motion: a body that flies towards another, one that hangs and springs back, and one that slides.
 
-use crate::transcript::first_fault;
-use std::test::Fail;
+use crate::transcript::holds;
+use std::alloc::AllocError;
 
 // A tetrahedron is fixed, with corners at 0 and at 100 along each axis. A second one starts ten grid units before the first
 // one's face, with a corner ahead. Each step is halved until it ends before the face, the last one to a single grid unit.
@@ -119,9 +119,8 @@ frame 2 converged 1
 "#;
 
 #[test]
-fn bodies_that_fly_at_one_another_stop_before_they_meet(rt: HostRuntime) -> Result<(), Fail> {
-    assert_eq!(rt; first_fault(rt.alloc(), FLIGHTS)?, None);
-    Ok(())
+fn bodies_that_fly_at_one_another_stop_before_they_meet(rt: HostRuntime) -> Result<(), AllocError> {
+    holds(&rt, rt.alloc(), FLIGHTS)
 }
 
 // A soft tetrahedron hangs on the fixed one by a face. The numbers are those of a short program in Python.
@@ -193,9 +192,8 @@ frame 6 stalled 1
 "#;
 
 #[test]
-fn a_soft_body_springs_back(rt: HostRuntime) -> Result<(), Fail> {
-    assert_eq!(rt; first_fault(rt.alloc(), SPRING)?, None);
-    Ok(())
+fn a_soft_body_springs_back(rt: HostRuntime) -> Result<(), AllocError> {
+    holds(&rt, rt.alloc(), SPRING)
 }
 
 // A soft tetrahedron is thrown along the upper face of a larger one, which is fixed, and pressed on it by its weight.
@@ -326,7 +324,6 @@ frame 6 stalled 0
 "#;
 
 #[test]
-fn friction_ends_a_slide(rt: HostRuntime) -> Result<(), Fail> {
-    assert_eq!(rt; first_fault(rt.alloc(), SLIDES)?, None);
-    Ok(())
+fn friction_ends_a_slide(rt: HostRuntime) -> Result<(), AllocError> {
+    holds(&rt, rt.alloc(), SLIDES)
 }

@@ -1,7 +1,7 @@
 //! Worked cases of surfaces: meshes that have none, and bodies that meet at the start.
 
-use crate::transcript::first_fault;
-use std::test::Fail;
+use crate::transcript::holds;
+use std::alloc::AllocError;
 
 // A second tetrahedron beside the first, which has corners at 0 and at 100 along each axis.
 const SECOND_BODY: &str = r#"
@@ -121,9 +121,8 @@ geometry refused: meets ET 5 8 / 1 2 3
 "#;
 
 #[test]
-fn bodies_that_meet_and_bodies_that_do_not(rt: HostRuntime) -> Result<(), Fail> {
-    assert_eq!(rt; first_fault(rt.alloc(), SECOND_BODY)?, None);
-    Ok(())
+fn bodies_that_meet_and_bodies_that_do_not(rt: HostRuntime) -> Result<(), AllocError> {
+    holds(&rt, rt.alloc(), SECOND_BODY)
 }
 
 const NO_SURFACE: &str = r#"
@@ -169,7 +168,6 @@ surface refused: face same 11 12
 "#;
 
 #[test]
-fn meshes_that_have_no_surface(rt: HostRuntime) -> Result<(), Fail> {
-    assert_eq!(rt; first_fault(rt.alloc(), NO_SURFACE)?, None);
-    Ok(())
+fn meshes_that_have_no_surface(rt: HostRuntime) -> Result<(), AllocError> {
+    holds(&rt, rt.alloc(), NO_SURFACE)
 }

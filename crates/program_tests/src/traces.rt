@@ -1,7 +1,7 @@
 //! Worked cases of traces, and of the stated stack.
 
-use crate::transcript::first_fault;
-use std::test::Fail;
+use crate::transcript::holds;
+use std::alloc::AllocError;
 
 const STEPS: &str = r#"
 #file f.toml
@@ -69,9 +69,8 @@ end budget 1
 "#;
 
 #[test]
-fn steps_are_written(rt: HostRuntime) -> Result<(), Fail> {
-    assert_eq!(rt; first_fault(rt.alloc(), STEPS)?, None);
-    Ok(())
+fn steps_are_written(rt: HostRuntime) -> Result<(), AllocError> {
+    holds(&rt, rt.alloc(), STEPS)
 }
 
 const NO_STEPS: &str = r#"
@@ -103,9 +102,8 @@ end converged 0
 "#;
 
 #[test]
-fn frames_without_steps_have_traces(rt: HostRuntime) -> Result<(), Fail> {
-    assert_eq!(rt; first_fault(rt.alloc(), NO_STEPS)?, None);
-    Ok(())
+fn frames_without_steps_have_traces(rt: HostRuntime) -> Result<(), AllocError> {
+    holds(&rt, rt.alloc(), NO_STEPS)
 }
 
 // The trace isn't there, is empty, or is whole; its frame is whole, and isn't said.
@@ -172,9 +170,8 @@ end stalled 1
 "#;
 
 #[test]
-fn shelf_fails_at_a_trace(rt: HostRuntime) -> Result<(), Fail> {
-    assert_eq!(rt; first_fault(rt.alloc(), TRACE_FAULTS)?, None);
-    Ok(())
+fn shelf_fails_at_a_trace(rt: HostRuntime) -> Result<(), AllocError> {
+    holds(&rt, rt.alloc(), TRACE_FAULTS)
 }
 
 // The one block is held.
@@ -190,9 +187,8 @@ sum 400 400 400
 "#;
 
 #[test]
-fn one_block_stands(rt: HostRuntime) -> Result<(), Fail> {
-    assert_eq!(rt; first_fault(rt.alloc(), ONE_BLOCK)?, None);
-    Ok(())
+fn one_block_stands(rt: HostRuntime) -> Result<(), AllocError> {
+    holds(&rt, rt.alloc(), ONE_BLOCK)
 }
 
 const FOUR_BLOCKS: &str = r#"
@@ -212,7 +208,6 @@ sum 1760 1600 6896
 "#;
 
 #[test]
-fn a_stack_falls_alike_each_time(rt: HostRuntime) -> Result<(), Fail> {
-    assert_eq!(rt; first_fault(rt.alloc(), FOUR_BLOCKS)?, None);
-    Ok(())
+fn a_stack_falls_alike_each_time(rt: HostRuntime) -> Result<(), AllocError> {
+    holds(&rt, rt.alloc(), FOUR_BLOCKS)
 }

@@ -20,10 +20,16 @@
 use crate::desk::Desk;
 use crate::start::START;
 use std::alloc::{AllocError, Global};
-use std::test::Fail;
+use std::process::Abort;
 
-/// The first order that doesn't hold, with its text and the number of its line, counted from 1.
-pub fn first_fault(alloc: Global, transcript: &str) -> Result<Option<(usize, &str)>, AllocError> {
+/// Asserts that each order of a transcript holds.
+pub fn holds(rt: &impl Abort, alloc: Global, transcript: &str) -> Result<(), AllocError> {
+    assert_eq!(rt; first_fault(alloc, transcript)?, None);
+    Ok(())
+}
+
+// The first order that doesn't hold, with its text and the number of its line, counted from 1.
+fn first_fault(alloc: Global, transcript: &str) -> Result<Option<(usize, &str)>, AllocError> {
     let mut desk = started(alloc)?;
     play(alloc, &mut desk, transcript)
 }
@@ -44,7 +50,7 @@ fn play<'a>(
 ) -> Result<Option<(usize, &'a str)>, AllocError> {
     let mut line: usize = 1;
     for (number, piece) in transcript.split("\n#").enumerate() {
-        if number > 0 && !holds(alloc, desk, piece)? {
+        if number > 0 && !meets(alloc, desk, piece)? {
             return Ok(Some((line, piece)));
         }
         line = line.saturating_add(piece.split('\n').count());
@@ -52,17 +58,28 @@ fn play<'a>(
     Ok(None)
 }
 
-// Does what an order says, or says whether it is so.
-fn holds(alloc: Global, desk: &mut Desk, piece: &str) -> Result<bool, AllocError> {
+// Does what an order asks for, or says whether it holds.
+fn meets(alloc: Global, desk: &mut Desk, piece: &str) -> Result<bool, AllocError> {
     let (line, lines) = piece.split_once('\n').unwrap_or((piece, ""));
     let (order, rest) = line.split_once(' ').unwrap_or((line, ""));
+    if !takes_text(order) && !lines.trim_end_matches('\n').is_empty() {
+        return Ok(false);
+    }
     match order {
         "#" => Ok(true),
         "file" => put(alloc, desk, rest, lines, "\n"),
         "crlf" => put(alloc, desk, rest, lines, "\r\n"),
         "shelf_fails" | "console_fails" => Ok(plans_fault(desk, order, rest)),
         "do" => obeys(alloc, desk, rest),
-        _ => is_so(alloc, desk, order, rest, lines),
+        _ => is_left(alloc, desk, order, rest, lines),
+    }
+}
+
+// Whether lines may stand below an order.
+fn takes_text(order: &str) -> bool {
+    match order {
+        "#" | "file" | "crlf" | "says" | "has" => true,
+        _ => false,
     }
 }
 
@@ -108,8 +125,8 @@ pub fn words_of(alloc: Global, line: &str) -> Result<Vec<String>, AllocError> {
     Ok(words)
 }
 
-// Whether this is so after the last command.
-fn is_so(
+// Whether an order holds after the last command.
+fn is_left(
     alloc: Global,
     desk: &Desk,
     order: &str,
@@ -162,7 +179,7 @@ fn unescaped(alloc: Global, text: &str) -> Result<String, AllocError> {
 }
 
 #[test]
-fn what_does_not_hold_is_found(rt: HostRuntime) -> Result<(), Fail> {
+fn what_does_not_hold_is_found(rt: HostRuntime) -> Result<(), AllocError> {
     for (transcript, line) in [
         ("\n#do\n#says 0", 3),
         ("\n#do\n#says 2\nusage", 3),
@@ -171,6 +188,7 @@ fn what_does_not_hold_is_found(rt: HostRuntime) -> Result<(), Fail> {
         ("\n#do\n#failed t.msh", 3),
         ("\n#file a\nb\nc\n\n#do\n#has a\nb", 7),
         ("\n#done", 2),
+        ("\n#do\n0", 2),
     ] {
         let fault = first_fault(rt.alloc(), transcript)?;
         assert_eq!(rt; fault.map(|(number, _)| number), Some(line), "{transcript}");
