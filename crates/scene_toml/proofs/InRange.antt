@@ -1,5 +1,5 @@
 -- What is read is in its key's range.
-use Rattle.std.proofs.Common.{IfOk, ◌≡◌, ◌^◌, ◌+◌, ◌≤◌, ℕ, ℤ, pos, neg_ℤ, ◌≤ℤ◌, List, [], ◌∷◌, ◌++◌, length, Bool, true, false, int_le, Option, Some, None, Result, Ok, Err, if◌then◌else◌, refl, sym, ap, subst, arith}
+use Rattle.std.proofs.Common.{IfOk, ◌≡◌, ◌^◌, ◌+◌, ◌≤◌, ℕ, ℤ, pos, neg_ℤ, ◌≤ℤ◌, List, [], ◌∷◌, ◌++◌, length, Bool, true, false, int_le, Option, Some, None, Result, Ok, Err, if◌then◌else◌, refl, sym, ap, ◌∙◌, subst, arith}
 use Rattle.std.specs.Prelude.{All, IfSome, unwrap_or}
 use Rattle.std.proofs.lemmas.List.{length-append, length-map}
 use Rattle.std.proofs.lemmas.List.Elements.{All-nil, All-cons, All-append, All-map, All-weaker}
@@ -9,27 +9,34 @@ use Rattle.std.proofs.lemmas.Int.{ints}
 use Rattle.std.specs.Int.Signed.{le_z_yes}
 use Rattle.std.specs.Prelude.{codes, unsigned_abs}
 use Rattle.dec_text.specs.declared.Snap.TheVariants.{Nearest}
+use Rattle.dec_text.specs.declared.TheConstants.{FINEST_GRID}
 use Rattle.toml.specs.Data.{Data, string, integer, array, table, Items, no_items, item, Members, get_member}
 use Rattle.space3.specs.declared.vectors.V3.{V3}
 use Rattle.space3.specs.Vectors.{AtMost, Within, origin}
 use Rattle.surface_mesh.specs.declared.materials.Material.{Material}
+use Rattle.surface_mesh.specs.declared.ranges.TheConstants.{LEAST_DHAT, MOST_DHAT, MOST_FRICTION, MOST_GRAVITY, MOST_KAPPA, MOST_SLIP}
 use Rattle.whole_laws.specs.Ranges.{IsFrom}
 use Rattle.surface_mesh.specs.Materials.{IsMaterial}
-use Rattle.scene_toml.specs.declared.keys.TheConstants.{NAME_LENGTHS, GRIDS, FRAME_COUNTS, BUDGETS, TOLERANCES, GRAVITIES, CONTACT_DISTANCES, STIFFNESSES, FRICTIONS, SLIPS, DENSITIES, MODULI, VELOCITIES, NO_RANGE}
+use Rattle.scene_toml.specs.declared.keys.TheConstants.{BUDGET_LIMIT, FRAME_LIMIT, TOL_LIMIT, NAME_LENGTHS, GRIDS, FRAME_COUNTS, BUDGETS, TOLERANCES, GRAVITIES, CONTACT_DISTANCES, STIFFNESSES, FRICTIONS, SLIPS, DENSITIES, MODULI, VELOCITIES, NO_RANGE}
 use Rattle.scene_toml.specs.declared.keys.Section.{Section}
 use Rattle.scene_toml.specs.declared.keys.Section.TheVariants as sections
 use Rattle.scene_toml.specs.declared.refusal.SceneErr.{SceneErr}
 use Rattle.scene_toml.specs.declared.refusal.ReadSceneErr.{ReadSceneErr}
+use Rattle.scene_toml.specs.declared.groups.FileKeys.{FileKeys}
+use Rattle.scene_toml.specs.declared.groups.ForceKeys.{ForceKeys}
+use Rattle.scene_toml.specs.declared.groups.FrameKeys.{FrameKeys}
 use Rattle.scene_toml.specs.declared.scene.Scene.{Scene}
 use Rattle.scene_toml.specs.Gives.{Gives}
-use Rattle.scene_toml.specs.Calls.{bool_at, integer_at, integer_or_at, material_at, material_in, new_tag_at, optional_bool_at, optional_integer_at, optional_text_at, optional_vector_at, parts_at, snap_at, text_at, vector_at}
+use Rattle.scene_toml.specs.Calls.{bool_at, files_in, files_of, forces_in, forces_of, frames_in, frames_of, integer_at, integer_or_at, material_at, material_in, new_tag_at, optional_bool_at, optional_integer_at, optional_text_at, optional_vector_at, parts_at, snap_at, text_at, vector_at}
 use Rattle.scene_toml.specs.declared.parts.PartKeys.{PartKeys}
 use Rattle.scene_toml.specs.Parts.{are_tables, count_of, not_tables, part, part_in, parts_from, parts_of, with_base}
 use Rattle.scene_toml.specs.Keys.{Key, key}
-use Rattle.scene_toml.specs.Readings.{material_of}
+use Rattle.scene_toml.specs.Reading.{read_keys}
+use Rattle.scene_toml.specs.Readings.{file_keys, force_keys, frame_keys, material_of, no_scene}
 use Rattle.scene_toml.specs.Tables.{table_of, first_unknown}
 use Rattle.scene_toml.specs.Values.{in_range, integer_of, integer_or, optional, text_of, three_integers, components_of, vector_of}
 use Rattle.scene_toml.specs.Scenes.{IsName, IsScene, scene_in, scene_of_table, scene_of_text, unless_unknown}
+use Rattle.scene_toml.proofs.KeyGroups.{scene_by_groups}
 use Rattle.scene_toml.proofs.Steps.{and_then-ok}
 
 ok_same : {T : Type 0} (x y : T) → ◌≡◌ {A = Result T SceneErr} (Ok x) (Ok y) → x ≡ y
@@ -213,47 +220,102 @@ optional_name None trace e = subst (λ (t : Option (List ℕ)). IfSome t IsName)
 count_from : (least most : ℕ) (n : ℤ) → IsFrom (pos least) (pos most) n → (least ≤ unsigned_abs n) × (unsigned_abs n ≤ most)
 count_from least most n h = (omega (arith, ints, h.low, h.high), omega (arith, ints, h.low, h.high))
 
-scene_in-holds : (ms : Members) (scene : Scene) → scene_in ms ≡ Ok scene → IsScene scene
-scene_in-holds ms scene e =
-    and_then-ok (text_at sections.Top (key (codes "mesh") NAME_LENGTHS) ms) _ scene e (λ mesh mesh-is e.
-    and_then-ok (text_at sections.Top (key (codes "out") NAME_LENGTHS) ms) _ scene e (λ out out-is e.
-    and_then-ok (integer_at sections.Top (key (codes "digits") GRIDS) ms) _ scene e (λ digits digits-is e.
-    and_then-ok (snap_at sections.Top (key (codes "snap") NO_RANGE) Nearest ms) _ scene e (λ snap snap-is e.
-    and_then-ok (integer_at sections.Top (key (codes "frames") FRAME_COUNTS) ms) _ scene e (λ frames frames-is e.
-    and_then-ok (integer_at sections.Top (key (codes "budget") BUDGETS) ms) _ scene e (λ budget budget-is e.
-    and_then-ok (integer_at sections.Top (key (codes "tol") TOLERANCES) ms) _ scene e (λ tol tol-is e.
-    and_then-ok (vector_at sections.Top (key (codes "gravity") GRAVITIES) origin ms) _ scene e (λ gravity gravity-is e.
-    and_then-ok (integer_at sections.Top (key (codes "dhat") CONTACT_DISTANCES) ms) _ scene e (λ dhat dhat-is e.
-    and_then-ok (integer_at sections.Top (key (codes "kappa") STIFFNESSES) ms) _ scene e (λ kappa kappa-is e.
-    and_then-ok (integer_or_at sections.Top (key (codes "friction") FRICTIONS) (pos 0) ms) _ scene e (λ friction friction-is e.
-    and_then-ok (integer_or_at sections.Top (key (codes "slip") SLIPS) (pos 1) ms) _ scene e (λ slip slip-is e.
-    and_then-ok (optional_text_at sections.Top (key (codes "trace") NAME_LENGTHS) ms) _ scene e (λ trace trace-is e.
-    and_then-ok (material_at ms) _ scene e (λ base base-is e.
-    and_then-ok (parts_at ms) _ scene e (λ parts parts-is e.
-    let gravity_from = vector_of-holds sections.Top (key (codes "gravity") GRAVITIES) origin (get_member (codes "gravity") ms) gravity (at_rest _ _ (omega arith) (omega arith)) gravity-is in
-    let base_in = material_of-holds (get_member (codes "material") ms) base base-is in
-    let (parts_in, few) = parts_of-holds (get_member (codes "part") ms) parts parts-is in
-    let budget_from = count_from 1 1000 budget (integer_at-holds sections.Top (key (codes "budget") BUDGETS) ms budget budget-is) in
-    subst IsScene (ok_same _ scene e) (record {
+-- what the groups of keys give is in range
+record AreFiles (files : FileKeys) : Type 0 where
+  pub mesh : IsName files.mesh
+  pub out : IsName files.out
+  pub digits : files.digits ≤ FINEST_GRID
+
+files_in-holds : (ms : Members) (files : FileKeys) → files_in ms ≡ Ok files → AreFiles files
+files_in-holds ms files e =
+    and_then-ok (read_keys file_keys ms no_scene) _ files e (λ s s-is e.
+    and_then-ok (text_at sections.Top (key (codes "mesh") NAME_LENGTHS) ms) _ s s-is (λ mesh mesh-is s-is.
+    and_then-ok (text_at sections.Top (key (codes "out") NAME_LENGTHS) ms) _ s s-is (λ out out-is s-is.
+    and_then-ok (integer_at sections.Top (key (codes "digits") GRIDS) ms) _ s s-is (λ digits digits-is s-is.
+    and_then-ok (snap_at sections.Top (key (codes "snap") NO_RANGE) Nearest ms) _ s s-is (λ snap snap-is s-is.
+    subst AreFiles (ap files_of (ok_same _ s s-is) ∙ ok_same _ files e) (record {
       mesh = is_name mesh (text_of-holds sections.Top (key (codes "mesh") NAME_LENGTHS) (get_member (codes "mesh") ms) mesh mesh-is);
       out = is_name out (text_of-holds sections.Top (key (codes "out") NAME_LENGTHS) (get_member (codes "out") ms) out out-is);
       digits = (count_from 0 9 digits (integer_at-holds sections.Top (key (codes "digits") GRIDS) ms digits digits-is)).1;
+    }))))))
+
+record AreFrames (group : FrameKeys) : Type 0 where
+  pub frames : group.frames ≤ FRAME_LIMIT
+  pub some_budget : 1 ≤ group.budget
+  pub budget : group.budget ≤ BUDGET_LIMIT
+  pub tol : IsFrom (pos 0) TOL_LIMIT group.tol
+
+frames_in-holds : (ms : Members) (group : FrameKeys) → frames_in ms ≡ Ok group → AreFrames group
+frames_in-holds ms group e =
+    and_then-ok (read_keys frame_keys ms no_scene) _ group e (λ s s-is e.
+    and_then-ok (integer_at sections.Top (key (codes "frames") FRAME_COUNTS) ms) _ s s-is (λ frames frames-is s-is.
+    and_then-ok (integer_at sections.Top (key (codes "budget") BUDGETS) ms) _ s s-is (λ budget budget-is s-is.
+    and_then-ok (integer_at sections.Top (key (codes "tol") TOLERANCES) ms) _ s s-is (λ tol tol-is s-is.
+    let budget_from = count_from 1 1000 budget (integer_at-holds sections.Top (key (codes "budget") BUDGETS) ms budget budget-is) in
+    subst AreFrames (ap frames_of (ok_same _ s s-is) ∙ ok_same _ group e) (record {
       frames = (count_from 0 9999 frames (integer_at-holds sections.Top (key (codes "frames") FRAME_COUNTS) ms frames frames-is)).1;
       some_budget = budget_from.0;
       budget = budget_from.1;
       tol = integer_at-holds sections.Top (key (codes "tol") TOLERANCES) ms tol tol-is;
+    })))))
+
+record AreForces (forces : ForceKeys) : Type 0 where
+  pub gravity : Within MOST_GRAVITY forces.gravity
+  pub dhat : IsFrom LEAST_DHAT MOST_DHAT forces.dhat
+  pub kappa : IsFrom (pos 1) MOST_KAPPA forces.kappa
+  pub friction : IsFrom (pos 0) MOST_FRICTION forces.friction
+  pub slip : IsFrom (pos 1) MOST_SLIP forces.slip
+
+forces_in-holds : (ms : Members) (forces : ForceKeys) → forces_in ms ≡ Ok forces → AreForces forces
+forces_in-holds ms forces e =
+    and_then-ok (read_keys force_keys ms no_scene) _ forces e (λ s s-is e.
+    and_then-ok (vector_at sections.Top (key (codes "gravity") GRAVITIES) origin ms) _ s s-is (λ gravity gravity-is s-is.
+    and_then-ok (integer_at sections.Top (key (codes "dhat") CONTACT_DISTANCES) ms) _ s s-is (λ dhat dhat-is s-is.
+    and_then-ok (integer_at sections.Top (key (codes "kappa") STIFFNESSES) ms) _ s s-is (λ kappa kappa-is s-is.
+    and_then-ok (integer_or_at sections.Top (key (codes "friction") FRICTIONS) (pos 0) ms) _ s s-is (λ friction friction-is s-is.
+    and_then-ok (integer_or_at sections.Top (key (codes "slip") SLIPS) (pos 1) ms) _ s s-is (λ slip slip-is s-is.
+    let gravity_from = vector_of-holds sections.Top (key (codes "gravity") GRAVITIES) origin (get_member (codes "gravity") ms) gravity (at_rest _ _ (omega arith) (omega arith)) gravity-is in
+    subst AreForces (ap (λ s. forces_of s.numbers) (ok_same _ s s-is) ∙ ok_same _ forces e) (record {
+      gravity = sizes_of (2 ^ 20) gravity gravity_from;
+      dhat = integer_at-holds sections.Top (key (codes "dhat") CONTACT_DISTANCES) ms dhat dhat-is;
+      kappa = integer_at-holds sections.Top (key (codes "kappa") STIFFNESSES) ms kappa kappa-is;
+      friction = integer_or-holds sections.Top (key (codes "friction") FRICTIONS) (pos 0) (get_member (codes "friction") ms) friction (record { low = omega arith; high = omega arith }) friction-is;
+      slip = integer_or-holds sections.Top (key (codes "slip") SLIPS) (pos 1) (get_member (codes "slip") ms) slip (record { low = omega arith; high = omega arith }) slip-is;
+    })))))))
+
+scene_in-holds : (ms : Members) (scene : Scene) → scene_in ms ≡ Ok scene → IsScene scene
+scene_in-holds ms scene e =
+    and_then-ok (files_in ms) _ scene (sym (scene_by_groups ms) ∙ e) (λ files files-is e.
+    and_then-ok (frames_in ms) _ scene e (λ frames frames-is e.
+    and_then-ok (forces_in ms) _ scene e (λ forces forces-is e.
+    and_then-ok (optional_text_at sections.Top (key (codes "trace") NAME_LENGTHS) ms) _ scene e (λ trace trace-is e.
+    and_then-ok (material_at ms) _ scene e (λ base base-is e.
+    and_then-ok (parts_at ms) _ scene e (λ parts parts-is e.
+    let of_files = files_in-holds ms files files-is in
+    let of_frames = frames_in-holds ms frames frames-is in
+    let of_forces = forces_in-holds ms forces forces-is in
+    let base_in = material_of-holds (get_member (codes "material") ms) base base-is in
+    let (parts_in, few) = parts_of-holds (get_member (codes "part") ms) parts parts-is in
+    subst IsScene (ok_same _ scene e) (record {
+      mesh = of_files.mesh;
+      out = of_files.out;
+      digits = of_files.digits;
+      frames = of_frames.frames;
+      some_budget = of_frames.some_budget;
+      budget = of_frames.budget;
+      tol = of_frames.tol;
       trace = optional_name (get_member (codes "trace") ms) trace trace-is;
       numbers = record {
         base = base_in;
         few_parts = omega (arith, few, length-map parts (with_base base));
         parts = All-map (λ part. IsMaterial part.1) (with_base base) parts (All-weaker IsPart (λ part. IsMaterial (with_base base part).1) (λ part h. with_base-holds base part base_in h) parts parts_in);
-        kappa = integer_at-holds sections.Top (key (codes "kappa") STIFFNESSES) ms kappa kappa-is;
-        dhat = integer_at-holds sections.Top (key (codes "dhat") CONTACT_DISTANCES) ms dhat dhat-is;
-        friction = integer_or-holds sections.Top (key (codes "friction") FRICTIONS) (pos 0) (get_member (codes "friction") ms) friction (record { low = omega arith; high = omega arith }) friction-is;
-        slip = integer_or-holds sections.Top (key (codes "slip") SLIPS) (pos 1) (get_member (codes "slip") ms) slip (record { low = omega arith; high = omega arith }) slip-is;
-        gravity = sizes_of (2 ^ 20) gravity gravity_from;
+        kappa = of_forces.kappa;
+        dhat = of_forces.dhat;
+        friction = of_forces.friction;
+        slip = of_forces.slip;
+        gravity = of_forces.gravity;
       };
-    }))))))))))))))))
+    })))))))
 
 scene_of_members-holds : (unknown : Option (List ℕ)) (ms : Members) (scene : Scene) → unless_unknown unknown (scene_in ms) ≡ Ok scene → IsScene scene
 scene_of_members-holds (Some key) ms scene e = absurd cc

@@ -1,7 +1,7 @@
 pub mod FirstRefusal
-pub mod GivenScenes
 pub mod InRange
 pub mod Items
+pub mod KeyGroups
 pub mod Lookups
 pub mod Names
 pub mod Numbers

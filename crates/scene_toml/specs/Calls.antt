@@ -1,18 +1,23 @@
 -- Words of the crate's own calls: what stands at a key of a table.
-use Rattle.std.specs.Prelude.{List, ℕ, ℤ, Bool, false, length, codes, Option, Result}
+use Rattle.std.specs.Prelude.{List, ℕ, ℤ, Bool, false, length, codes, Option, Result, Ok}
 use Rattle.dec_text.specs.declared.Snap.{Snap}
 use Rattle.toml.specs.Data.{Members, get_member}
 use Rattle.space3.specs.declared.vectors.V3.{V3}
 use Rattle.surface_mesh.specs.declared.materials.Material.{Material}
+use Rattle.surface_mesh.specs.declared.materials.Numbers.{Numbers}
 use Rattle.scene_toml.specs.declared.keys.Section.{Section}
 use Rattle.scene_toml.specs.declared.refusal.SceneErr.{SceneErr}
 use Rattle.space3.specs.Vectors.{origin}
+use Rattle.scene_toml.specs.declared.groups.FileKeys.{FileKeys}
+use Rattle.scene_toml.specs.declared.groups.ForceKeys.{ForceKeys}
+use Rattle.scene_toml.specs.declared.groups.FrameKeys.{FrameKeys}
 use Rattle.scene_toml.specs.declared.parts.PartKeys.{PartKeys}
+use Rattle.scene_toml.specs.declared.scene.Scene.{Scene}
 use Rattle.scene_toml.specs.Keys.{Key}
 use Rattle.scene_toml.specs.Parts.{new_tag_of, part, parts_of}
 use Rattle.scene_toml.specs.Reading.{read_keys}
-use Rattle.scene_toml.specs.Readings.{material, material_keys, material_of, no_material}
-use Rattle.scene_toml.specs.Values.{bool_of, integer_of, integer_or, optional, snap_of, text_of, vector_of}
+use Rattle.scene_toml.specs.Readings.{file_keys, force_keys, frame_keys, material, material_keys, material_of, no_material, no_scene}
+use Rattle.scene_toml.specs.Values.{and_then, bool_of, integer_of, integer_or, optional, snap_of, text_of, vector_of}
 
 -- the integer at a key
 abbrev pub integer_at : Section → Key → Members → Result ℤ SceneErr
@@ -44,6 +49,25 @@ material_in members = read_keys material_keys members no_material
 
 abbrev pub material_at : Members → Result Material SceneErr
 material_at members = material_of (get_member material.name members)
+
+-- what a scene's table gives at keys that are read together
+abbrev pub files_of : Scene → FileKeys
+files_of s = record { mesh = s.mesh; out = s.out; digits = s.digits; snap = s.snap }
+
+abbrev pub files_in : Members → Result FileKeys SceneErr
+files_in members = and_then (read_keys file_keys members no_scene) (λ s. Ok (files_of s))
+
+abbrev pub frames_of : Scene → FrameKeys
+frames_of s = record { frames = s.frames; budget = s.budget; tol = s.tol }
+
+abbrev pub frames_in : Members → Result FrameKeys SceneErr
+frames_in members = and_then (read_keys frame_keys members no_scene) (λ s. Ok (frames_of s))
+
+abbrev pub forces_of : Numbers → ForceKeys
+forces_of n = record { gravity = n.gravity; dhat = n.dhat; kappa = n.kappa; friction = n.friction; slip = n.slip }
+
+abbrev pub forces_in : Members → Result ForceKeys SceneErr
+forces_in members = and_then (read_keys force_keys members no_scene) (λ s. Ok (forces_of s.numbers))
 
 -- what stands at a key that may be absent
 abbrev pub optional_integer_at : Section → Key → Members → Result (Option ℤ) SceneErr

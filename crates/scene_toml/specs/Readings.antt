@@ -1,5 +1,5 @@
 -- The keys of each table in the order in which they are tried, and what is read at each.
-use Rattle.std.specs.Prelude.{List, [], ◌∷◌, ℕ, ℤ, pos, Bool, codes, bytes_eq, map, unsigned_abs, false, Option, Some, None, Result, Err}
+use Rattle.std.specs.Prelude.{List, [], ◌∷◌, ◌++◌, ℕ, ℤ, pos, Bool, codes, bytes_eq, map, unsigned_abs, false, Option, Some, None, Result, Err}
 use Rattle.std.specs.List.{list_any}
 use Rattle.dec_text.specs.declared.Snap.{Snap}
 use Rattle.dec_text.specs.declared.Snap.TheVariants.{Nearest}
@@ -77,21 +77,37 @@ material_of (Some (table members)) = read_keys material_keys members no_material
 material_of (Some _) = Err (WrongType (printed sections.Top material.name))
 material_of None = Err (Missing (printed sections.Top material.name))
 
-abbrev pub scene_keys : List (Reading Scene)
-scene_keys =
+-- the keys of files and of the grid
+abbrev pub file_keys : List (Reading Scene)
+file_keys =
     text_key sections.Top (codes "mesh") NAME_LENGTHS (λ text s. record s { mesh = text })
     ∷ text_key sections.Top (codes "out") NAME_LENGTHS (λ text s. record s { out = text })
     ∷ integer_key sections.Top (codes "digits") GRIDS (λ n s. record s { digits = unsigned_abs n })
     ∷ snap_key sections.Top (codes "snap") Nearest (λ snap s. record s { snap = snap })
-    ∷ integer_key sections.Top (codes "frames") FRAME_COUNTS (λ n s. record s { frames = unsigned_abs n })
+    ∷ []
+
+-- the keys of the frames
+abbrev pub frame_keys : List (Reading Scene)
+frame_keys =
+    integer_key sections.Top (codes "frames") FRAME_COUNTS (λ n s. record s { frames = unsigned_abs n })
     ∷ integer_key sections.Top (codes "budget") BUDGETS (λ n s. record s { budget = unsigned_abs n })
     ∷ integer_key sections.Top (codes "tol") TOLERANCES (λ n s. record s { tol = n })
-    ∷ vector_key sections.Top (codes "gravity") GRAVITIES origin (λ v s. record s { numbers = record s.numbers { gravity = v } })
+    ∷ []
+
+-- the keys of gravity, of contact and of friction
+abbrev pub force_keys : List (Reading Scene)
+force_keys =
+    vector_key sections.Top (codes "gravity") GRAVITIES origin (λ v s. record s { numbers = record s.numbers { gravity = v } })
     ∷ integer_key sections.Top (codes "dhat") CONTACT_DISTANCES (λ n s. record s { numbers = record s.numbers { dhat = n } })
     ∷ integer_key sections.Top (codes "kappa") STIFFNESSES (λ n s. record s { numbers = record s.numbers { kappa = n } })
     ∷ optional_integer_key sections.Top (codes "friction") FRICTIONS (pos 0) (λ n s. record s { numbers = record s.numbers { friction = n } })
     ∷ optional_integer_key sections.Top (codes "slip") SLIPS (pos 1) (λ n s. record s { numbers = record s.numbers { slip = n } })
-    ∷ optional_text_key sections.Top (codes "trace") NAME_LENGTHS (λ text s. record s { trace = text })
+    ∷ []
+
+-- the keys of the traces and of the bodies
+abbrev pub body_keys : List (Reading Scene)
+body_keys =
+    optional_text_key sections.Top (codes "trace") NAME_LENGTHS (λ text s. record s { trace = text })
     ∷ record {
       Value = Material;
       key = material;
@@ -105,6 +121,10 @@ scene_keys =
       put = λ parts s. record s { numbers = record s.numbers { parts = map (with_base s.numbers.base) parts } };
     }
     ∷ []
+
+-- the keys of a scene
+abbrev pub scene_keys : List (Reading Scene)
+scene_keys = file_keys ++ frame_keys ++ force_keys ++ body_keys
 
 -- a scene of which nothing is read yet
 abbrev pub no_numbers : Numbers

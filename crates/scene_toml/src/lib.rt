@@ -4,6 +4,7 @@
 //! what stands at a key. `parts`: the parts. `refusal`: why there is no scene. `laws`: what a text is worth.
 #![tactic(auto)]
 
+mod groups;
 mod keys;
 mod laws;
 mod parts;

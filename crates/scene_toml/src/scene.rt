@@ -6,17 +6,14 @@ ghost use Rattle.scene_toml.specs.Gives.{Gives};
 ghost use Rattle.scene_toml.specs.Calls.{material_at, material_in};
 ghost use Rattle.scene_toml.specs.Scenes.{IsScene, scene_in, scene_of_members, scene_of_text};
 
-use crate::keys::{
-    BUDGET, DENSITY, DHAT, DIGITS, FIXED, FRAMES, FRICTION, GRAVITY, KAPPA, LAMBDA, MATERIAL, MESH,
-    MU, OUT, SLIP, SNAP, Section, TOL, TRACE, VELOCITY,
-};
+use crate::groups::{files_in, forces_in, frames_in};
+use crate::keys::{DENSITY, FIXED, LAMBDA, MATERIAL, MU, Section, TRACE, VELOCITY};
 use crate::parts::{PartKeys, parts_at};
 use crate::refusal::{ReadSceneErr, SceneErr};
 use crate::tables::{first_unknown, value_at};
 use crate::texts::NameText;
 use crate::values::{
-    ORIGIN, bool_at, integer_at, integer_or_at, missing, optional_text_at, snap_at, text_at,
-    vector_at, wrong_type,
+    ORIGIN, bool_at, integer_at, missing, optional_text_at, vector_at, wrong_type,
 };
 use dec_text::Snap;
 use std::alloc::{AllocError, Global};
@@ -105,39 +102,30 @@ fn with_base(base: Material, part: &PartKeys) -> (i32, Material)
 fn scene_in(alloc: Global, table: &Table) -> Result<Scene, ReadSceneErr>
     ensures { Gives result (scene_in (table_view table.now)) }
 {
-    let mesh = text_at(alloc, Section::Top, &MESH, table)?;
-    let out = text_at(alloc, Section::Top, &OUT, table)?;
-    let digits = integer_at(alloc, Section::Top, &DIGITS, table)?;
-    let snap = snap_at(alloc, Section::Top, &SNAP, Snap::Nearest, table)?;
-    let frames = integer_at(alloc, Section::Top, &FRAMES, table)?;
-    let budget = integer_at(alloc, Section::Top, &BUDGET, table)?;
-    let tol = integer_at(alloc, Section::Top, &TOL, table)?;
-    let gravity = vector_at(alloc, Section::Top, &GRAVITY, ORIGIN, table)?;
-    let dhat = integer_at(alloc, Section::Top, &DHAT, table)?;
-    let kappa = integer_at(alloc, Section::Top, &KAPPA, table)?;
-    let friction = integer_or_at(alloc, Section::Top, &FRICTION, 0, table)?;
-    let slip = integer_or_at(alloc, Section::Top, &SLIP, 1, table)?;
+    let files = files_in(alloc, table)?;
+    let frames = frames_in(alloc, table)?;
+    let forces = forces_in(alloc, table)?;
     let trace = optional_text_at(alloc, Section::Top, &TRACE, table)?;
     let base = material_at(alloc, table)?;
     let given = parts_at(alloc, table)?;
     let parts = part_list(alloc, base, given.items())?;
     Ok(Scene {
-        mesh,
-        out,
-        digits: digits as u8,
-        snap,
-        frames: frames as u32,
-        budget: budget as u32,
-        tol,
+        mesh: files.mesh,
+        out: files.out,
+        digits: files.digits,
+        snap: files.snap,
+        frames: frames.frames,
+        budget: frames.budget,
+        tol: frames.tol,
         trace,
         numbers: Numbers {
             base,
             parts,
-            kappa,
-            dhat,
-            friction,
-            slip,
-            gravity,
+            kappa: forces.kappa,
+            dhat: forces.dhat,
+            friction: forces.friction,
+            slip: forces.slip,
+            gravity: forces.gravity,
         },
     })
 }
