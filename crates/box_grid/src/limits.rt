@@ -16,5 +16,5 @@ pub(crate) const LEAST_SIDE: u64 = 2;
 pub(crate) const MOST_SPLIT: u64 = 8;
 
 /// A row of cells is looked up in about the time in which so many boxes are compared. Where the cells over a box have
-/// more rows than are worth it, all boxes are candidates.
+/// more rows than are worth it, all boxes are tested in order.
 pub(crate) const BOXES_A_ROW: u64 = 16;

@@ -24,13 +24,16 @@ pub(crate) fn has(level: Level, around: &BoundingBox) -> bool
     if level.great { great } else { !great }
 }
 
-/// The side of the cells for the boxes that aren't great: about the mean longest side of all boxes, or the reach where
-/// that is more. What is found doesn't depend on it. Smaller cells make more entries and more great boxes, greater ones
-/// more candidates.
+/// The side of the cells for the boxes that aren't great: one and a half times the mean longest side of all boxes, or the
+/// reach where that is more. What is found doesn't depend on it. Smaller cells make more entries, more rows to look up
+/// and more great boxes, greater ones more boxes to test.
 pub(crate) fn common_side(boxes: &[BoundingBox], reach: u32) -> u64
     ensures { LEAST_SIDE ≤ result }
 {
-    mean_side(boxes, 0).max(u64::from(reach)).max(LEAST_SIDE)
+    let mean = mean_side(boxes, 0);
+    mean.saturating_add(mean / 2)
+        .max(u64::from(reach))
+        .max(LEAST_SIDE)
 }
 
 /// The side of the cells for the boxes that are great beside cells of the common side: about their mean longest side,
