@@ -1,7 +1,8 @@
 -- What the potential of a frame is made of beside its bodies.
-use Rattle.std.specs.Prelude.{◌≡◌, ◌≤◌, List, map, zip, length, All}
+use Rattle.std.specs.Prelude.{◌≡◌, ◌≤◌, List, map, zip, length, unsigned_abs, All}
 use Rattle.space3.specs.declared.vectors.V3.{V3}
 use Rattle.space3.specs.Vectors.{Within}
+use Rattle.broad_grid.specs.Kept.{IsWhole, KeptPairs}
 use Rattle.surface_mesh.specs.declared.setup.Setup.{Setup}
 use Rattle.inertia_term.specs.declared.target.TheConstants.{FARTHEST_TARGET}
 use Rattle.inertia_term.specs.Inertia.{target_of}
@@ -24,16 +25,25 @@ abbrev pub terms_of : Setup → (now before : List V3) → FrameTerms
 terms_of setup now before =
     record { targets = targets_of setup.numbers.gravity now before; contacts = contacts_of setup now }
 
--- the terms of a frame, and what is kept of the bodies
+-- the terms of a frame, and what is kept of the bodies and of the pairs that were near as it began
 pub record KeptTerms : Type 0 where
   pub frame : FrameTerms
   pub elastic : List ElasticTet
+  pub near_pairs : KeptPairs
+
+-- near pairs that are kept are of this setup: all of its surface that are near, by a reach of dhat, with one kept place
+-- per node
+pub record AreNearPairs (setup : Setup) (kept : KeptPairs) : Type 0 where
+  pub each : length kept.places ≡ length setup.mesh.numbers
+  pub reach : kept.reach ≡ unsigned_abs setup.numbers.dhat
+  pub whole : IsWhole setup.surface kept
 
 -- The terms are of this setup: one target per node, none too far; contacts between parts of its surface, not too many;
--- and what is kept is of its tetrahedra.
+-- and what is kept is of its tetrahedra and of its near pairs.
 pub record StandFor (setup : Setup) (terms : KeptTerms) : Type 0 where
   pub each : length terms.frame.targets ≡ length setup.mesh.numbers
   pub near : All (Within FARTHEST_TARGET) terms.frame.targets
   pub contacts : All (IsBetweenParts setup) terms.frame.contacts
   pub few : length terms.frame.contacts ≤ MOST_CLOSE
   pub elastic : terms.elastic ≡ elastic_tets setup
+  pub pairs : AreNearPairs setup terms.near_pairs

@@ -18,6 +18,7 @@ ghost use Rattle.potential_sum.specs.Calls.Sums.{AreLight, pulls_of, with_parts}
 ghost use Rattle.potential_sum.specs.Contributions.{barrier_contribution};
 ghost use Rattle.potential_sum.specs.Contacts.{near_of_parts, points_of_parts};
 ghost use Rattle.potential_sum.specs.declared.contacts.TheConstants.{MOST_CLOSE};
+ghost use Rattle.potential_sum.specs.Terms.{AreNearPairs};
 ghost use Rattle.potential_sum.specs.Upright.{IsUpright};
 
 use crate::blocks::Block;
@@ -25,24 +26,40 @@ use crate::bodies::corners_at;
 use crate::pulls::{Pull, add_pulls, pull_at};
 use barrier_term::{barrier_blocks, barrier_energy, barrier_gradient};
 use boundary::{Pair, Surface};
-use broad_grid::{PairList, close_pairs};
+use broad_grid::{Kept, PairList};
 use near_pair::{Near, near_parts};
 use space3::{Places, V3, W3};
 use std::alloc::{AllocError, Global};
 use surface_mesh::{Numbers, Setup};
 
-// The pairs of parts whose boxes have a gap of at most dhat.
-pub(crate) fn pairs_within_dhat(
+// Keeps the pairs among which those that are close are found while no node has moved by more than dhat.
+pub(crate) fn keep_near_pairs(
     alloc: Global,
     setup: &Setup,
+    now: &Places,
+) -> Result<Kept, AllocError>
+    requires built { IsSetup setup.now }
+    requires pose { IsUpright setup.now now.now }
+    ensures { IfOk result (AreNearPairs setup.now) }
+{
+    let dhat = setup.numbers.dhat as u32;
+    Kept::open(alloc, &setup.surface, now, dhat, dhat)
+}
+
+// The pairs of parts whose boxes have a gap of at most dhat.
+pub(crate) fn close_pairs_at(
+    alloc: Global,
+    setup: &Setup,
+    kept: &Kept,
     x: &Places,
 ) -> Result<PairList, AllocError>
     requires built { IsSetup setup.now }
+    requires kept { AreNearPairs setup.now kept.now }
     requires pose { IsUpright setup.now x.now }
     ensures { IfOk result (λ pairs. pairs ≡
         close_pairs_of (unsigned_abs setup.now.numbers.dhat) setup.now.surface x.now) }
 {
-    close_pairs(alloc, &setup.surface, x, setup.numbers.dhat as u32)
+    kept.close(alloc, &setup.surface, x)
 }
 
 /// The nodes of two parts, those of the first part first, of which there are `split`.

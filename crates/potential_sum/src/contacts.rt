@@ -9,10 +9,12 @@ ghost use Rattle.surface_mesh.specs.Materials.{AreNumbers};
 ghost use Rattle.surface_mesh.specs.Setup.{IsSetup};
 ghost use Rattle.potential_sum.specs.Calls.Barriers.{MayPush, parts_in};
 ghost use Rattle.potential_sum.specs.Contacts.{contact_at, contacts_of, is_active};
+ghost use Rattle.potential_sum.specs.Terms.{AreNearPairs};
 ghost use Rattle.potential_sum.specs.Upright.{IsUpright};
 
-use crate::barriers::{Nearest, TwoParts, pairs_within_dhat, parts_of};
+use crate::barriers::{Nearest, TwoParts, close_pairs_at, parts_of};
 use barrier_term::{barrier_slope, reach_of};
+use broad_grid::Kept;
 use friction_lag::{Contact, contact};
 use near_pair::Near;
 use space3::Places;
@@ -27,13 +29,15 @@ pub const MOST_CLOSE: u64 = 8_053_063_680;
 pub(crate) fn contacts_at(
     alloc: Global,
     setup: &Setup,
+    kept: &Kept,
     now: &Places,
 ) -> Result<Vec<Contact>, AllocError>
     requires built { IsSetup setup.now }
+    requires kept { AreNearPairs setup.now kept.now }
     requires pose { IsUpright setup.now now.now }
     ensures { IfOk result (λ made. map lagged_in made.items ≡ contacts_of setup.now now.now) }
 {
-    let pairs = pairs_within_dhat(alloc, setup, now)?;
+    let pairs = close_pairs_at(alloc, setup, kept, now)?;
     let mut made = Vec::new(alloc);
     for pair in pairs.items() {
         let parts = parts_of(&setup.surface, *pair);

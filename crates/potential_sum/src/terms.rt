@@ -16,7 +16,7 @@ ghost use Rattle.potential_sum.specs.Matrix.{matrix};
 ghost use Rattle.potential_sum.specs.Potential.{gradient, potential};
 ghost use Rattle.potential_sum.specs.Terms.{StandFor, terms_of};
 
-use crate::barriers::{add_barrier_pulls, barrier_energy_of, pairs_within_dhat};
+use crate::barriers::{add_barrier_pulls, barrier_energy_of, close_pairs_at, keep_near_pairs};
 use crate::bodies::{Body, add_elastic_pulls, bodies_of, elastic_energy};
 use crate::contacts::contacts_at;
 use crate::friction::{add_friction_pulls, friction_energy_of};
@@ -24,6 +24,7 @@ use crate::inertia::{add_inertia_pulls, inertia_energy_of, targets_of};
 use crate::matrix::block_sums;
 use crate::pulls::node_numbers;
 use block_rows::Rows;
+use broad_grid::Kept;
 use friction_lag::Contact;
 use space3::{Places, V3, W3};
 use std::alloc::{AllocError, Global};
@@ -33,12 +34,14 @@ use surface_mesh::Setup;
 const NOTHING: W3 = W3 { x: 0, y: 0, z: 0 };
 
 /// What the potential of a frame is made of beside its bodies: one target per node, and the contacts where it begins;
-/// and what is kept of the bodies, so that it isn't computed at each call.
+/// and what is kept of the bodies and of the pairs that are near where it begins, so that it isn't computed at each
+/// call.
 #[derive(Drop)]
 pub struct Terms {
     targets: Vec<V3>,
     contacts: Vec<Contact>,
     bodies: Vec<Body>,
+    kept: Kept,
 }
 
 impl Model for Terms {
@@ -52,6 +55,7 @@ impl Model for Terms {
     ghost view = { λ t. record {
       frame = record { targets = t.targets.items; contacts = map lagged_in t.contacts.items };
       elastic = map elastic_in t.bodies.items;
+      near_pairs = t.kept;
     } };
 }
 
@@ -74,12 +78,14 @@ impl Terms {
         ensures stand { IfOk result (StandFor setup.now) }
     {
         let targets = targets_of(alloc, setup.numbers.gravity, now, before)?;
-        let contacts = contacts_at(alloc, setup, now)?;
+        let kept = keep_near_pairs(alloc, setup, now)?;
+        let contacts = contacts_at(alloc, setup, &kept, now)?;
         let bodies = bodies_of(alloc, setup)?;
         Ok(Terms {
             targets,
             contacts,
             bodies,
+            kept,
         })
     }
 
@@ -106,7 +112,7 @@ impl Terms {
         requires pose { IsUpright setup.now x.now }
         ensures { IfOk result (λ energy. energy ≡ potential setup.now self.now.frame x.now) }
     {
-        let pairs = pairs_within_dhat(alloc, setup, x)?;
+        let pairs = close_pairs_at(alloc, setup, &self.kept, x)?;
         let inertia = inertia_energy_of(setup.mass.items(), self.targets.as_slice(), x);
         let elastic = elastic_energy(self.bodies.as_slice(), x);
         let barriers = barrier_energy_of(setup, x, pairs.items());
@@ -147,7 +153,7 @@ impl Terms {
         ensures table { IfOk result (λ rows.
             table_of rows ≡ matrix setup.now self.now.frame x.now) }
     {
-        let pairs = pairs_within_dhat(alloc, setup, x)?;
+        let pairs = close_pairs_at(alloc, setup, &self.kept, x)?;
         let sums = block_sums(
             alloc,
             setup,
@@ -168,7 +174,7 @@ impl Terms {
         requires pose { IsUpright setup.now x.now }
         ensures { IfOk result (λ made. made.items ≡ gradient setup.now self.now.frame x.now) }
     {
-        let pairs = pairs_within_dhat(alloc, setup, x)?;
+        let pairs = close_pairs_at(alloc, setup, &self.kept, x)?;
         let mut sums = body_sums(
             alloc,
             setup.mass.items(),
