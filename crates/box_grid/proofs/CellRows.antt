@@ -1,19 +1,16 @@
 -- The rows of cells: where each cell is, and that its entry is there.
-use Rattle.std.proofs.Common.{◌≡◌, if◌then◌else◌, ◌∙◌, ℕ, Bool, true, false, ◌+◌, ◌-◌, ◌*◌, ◌/◌, ◌%◌, ◌<◌, ◌≤◌, List, [], length, get_or, zero-add, ap, arith, subst}
+use Rattle.std.proofs.Common.{◌≡◌, if◌then◌else◌, ◌∙◌, ℕ, Bool, true, false, ◌+◌, ◌-◌, ◌*◌, ◌/◌, ◌%◌, ◌<◌, ◌≤◌, List, [], length, get_or, ap, arith, subst}
 use Rattle.std.specs.List.{range_with_len, All, Contains}
 use Rattle.std.proofs.lemmas.Nat.{div-mul-add, mod-mul-add, mul-add-lt}
 use Rattle.std.proofs.lemmas.List.FromFn.{length-range_with_len, get_or-range_with_len}
 use Rattle.std.proofs.lemmas.List.Elements.{All-map}
-use Rattle.list_laws.proofs.Membership.{Contains-map, Contains-flat_map, All-flat_map}
+use Rattle.list_laws.proofs.Membership.{Contains-map, Contains-flat_map, Contains-range, All-flat_map}
 use Rattle.space3.specs.declared.boxes.BoundingBox.{BoundingBox}
 use Rattle.box_grid.specs.declared.cells.Cells.{Cells}
 use Rattle.box_grid.specs.declared.entries.Entry.{Entry}
 use Rattle.box_grid.specs.declared.sizes.Level.{Level}
 use Rattle.box_grid.specs.Near.{box_at}
 use Rattle.box_grid.specs.Calls.Cells.{cells_over, entries_in, entries_of, entries_of_boxes, entry, has, key_of, row_of, run_of}
-
-pub in_range : (n k : ℕ) → k < n → Contains (range_with_len 0 n) k
-in_range n k h = (k, omega (arith, length-range_with_len 0 n), get_or-range_with_len 0 n k k h ∙ zero-add k)
 
 -- the row of a cell
 pub row_of_cell : (c : Cells) (x y : ℕ) → c.x ≤ x → x < c.x + c.width → c.y ≤ y → y < c.y + c.depth → (r : ℕ) × (r < c.width * c.depth) × (row_of c r ≡ key_of x y c.z)
@@ -36,9 +33,9 @@ entry_of_cell c item x y z xl xh yl yh zl zh =
     let on : c.z + (z - c.z) ≡ z = omega arith in
     let key : row_of c row.0 + (z - c.z) ≡ key_of x y z = ap (λ k. k + (z - c.z)) row.2 ∙ key_along_row x y c.z (z - c.z) ∙ ap (key_of x y) on in
     Contains-flat_map (λ r. run_of item (row_of c r) c.height) (range_with_len 0 (c.width * c.depth)) row.0 (entry (key_of x y z) item)
-    (in_range (c.width * c.depth) row.0 row.1)
+    (Contains-range (c.width * c.depth) row.0 row.1)
     (subst (λ k. Contains (run_of item (row_of c row.0) c.height) (entry k item)) key
-    (Contains-map (λ k. entry (row_of c row.0 + k) item) (range_with_len 0 c.height) (z - c.z) (in_range c.height (z - c.z) (omega arith))))
+    (Contains-map (λ k. entry (row_of c row.0 + k) item) (range_with_len 0 c.height) (z - c.z) (Contains-range c.height (z - c.z) (omega arith))))
 
 -- each entry's item is a position
 pub items_below : (level : Level) (boxes : List BoundingBox) → All (λ (e : Entry). e.item < length boxes) (entries_of_boxes level boxes)

@@ -5,7 +5,7 @@ use Rattle.std.specs.List.{range_with_len, All, Contains}
 use Rattle.std.proofs.lemmas.Bool.{and_parts}
 use Rattle.std.proofs.lemmas.Int.{ints}
 use Rattle.std.proofs.lemmas.Nat.{le-div, div-add-mod'}
-use Rattle.list_laws.proofs.Membership.{Contains-flat_map}
+use Rattle.list_laws.proofs.Membership.{Contains-flat_map, Contains-range}
 use Rattle.space3.specs.Vectors.{AtMost, origin}
 use Rattle.space3.specs.declared.boxes.BoundingBox.{BoundingBox}
 use Rattle.space3.specs.declared.places.TheConstants.{BOX_LIMIT}
@@ -16,7 +16,7 @@ use Rattle.box_grid.specs.declared.sizes.Level.{Level}
 use Rattle.box_grid.specs.declared.limits.TheConstants.{AXIS_LIMIT, LEAST_SIDE, REACH_LIMIT}
 use Rattle.box_grid.specs.Near.{LiesInTheBox, box_at}
 use Rattle.box_grid.specs.Calls.Cells.{LiesByTheBox, cell_of, cells_over, entries_in, entries_of, entries_of_boxes, entry, has, key_of, row_of, touches}
-use Rattle.box_grid.proofs.CellRows.{entry_of_cell, in_range, key_along_row, row_of_cell}
+use Rattle.box_grid.proofs.CellRows.{entry_of_cell, key_along_row, row_of_cell}
 use Rattle.box_grid.proofs.WideBoxes.{by_the_box}
 
 -- a division by a side doesn't turn the order
@@ -99,7 +99,7 @@ entry_of_touching_box level a boxes item s h all below touch had =
       row = f.row;
       within = f.within;
       key = f.key;
-      there = Contains-flat_map (λ i. entries_in level (box_at boxes i) i) (range_with_len 0 (length boxes)) item (entry f.key item) (in_range (length boxes) item below)
+      there = Contains-flat_map (λ i. entries_in level (box_at boxes i) i) (range_with_len 0 (length boxes)) item (entry f.key item) (Contains-range (length boxes) item below)
           (subst (λ t. Contains (if t then entries_of (cells_over side b) item else []) (entry f.key item)) (sym had) f.there);
       from = f.from;
       below = f.below;

@@ -1,6 +1,6 @@
 -- All that are close are among the near pairs that are kept, while no place is far from its kept one.
-use Rattle.std.proofs.Common.{◌≡◌, ℕ, zero, suc, ◌+◌, ◌*◌, ◌≤◌, ℤ, pos, ◌+ℤ◌, ◌-ℤ◌, ◌≤ℤ◌, Bool, true, false, ◌&&◌, cond, List, [], ◌∷◌, map, length, get_or, ap, refl, subst, sym, arith, unsigned_abs}
-use Rattle.std.specs.Prelude.{All, int_le, nat_le}
+use Rattle.std.proofs.Common.{◌≡◌, ℕ, zero, suc, ◌+◌, ◌*◌, ◌≤◌, ℤ, pos, ◌+ℤ◌, ◌-ℤ◌, ◌≤ℤ◌, Bool, true, false, ◌&&◌, cond, List, [], ◌∷◌, map, length, ap, refl, subst, sym, arith, unsigned_abs}
+use Rattle.std.specs.Prelude.{All, nat_le}
 use Rattle.std.specs.List.{filter, fold}
 use Rattle.std.specs.Int.{int_min, int_max}
 use Rattle.std.proofs.lemmas.Bool.{and_parts}
@@ -9,7 +9,6 @@ use Rattle.std.proofs.lemmas.List.Elements.{All-filter}
 use Rattle.space3.specs.declared.vectors.V3.{V3}
 use Rattle.space3.specs.Boxes.{are_within, greatest_of, least_of}
 use Rattle.space3.specs.Mesh.{place_of}
-use Rattle.space3.specs.Vectors.{origin}
 use Rattle.space3.proofs.BoxLemmas.{gap_closes, gap_parts, gap_within}
 use Rattle.boundary.specs.declared.pairs.Pair.{Pair}
 use Rattle.boundary.specs.Pairs.{IsPair, pairs_of, part_pair}

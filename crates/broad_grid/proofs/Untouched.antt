@@ -1,5 +1,5 @@
 -- Parts whose boxes don't touch in a motion are certified to stay apart.
-use Rattle.std.proofs.Common.{◌≡◌, ◌∙◌, ℕ, ◌<◌, ◌≤◌, List, [], ◌∷◌, ◌++◌, map, length, false, true, ap, sym, subst, arith}
+use Rattle.std.proofs.Common.{◌≡◌, ◌∙◌, ℕ, ◌<◌, ◌≤◌, List, [], ◌∷◌, ◌++◌, map, length, false, true, sym, subst, arith}
 use Rattle.std.proofs.lemmas.Simd.{map-map}
 use Rattle.space3.specs.declared.vectors.V3.{V3}
 use Rattle.space3.specs.Boxes.{BoxesTouch, are_within, box_of}

@@ -7,6 +7,7 @@ use Rattle.num_q.specs.Rounding.{floor_of}
 use Rattle.whole_laws.proofs.Floors.{floor_nonneg, floor_below, floor_mono}
 use Rattle.whole_laws.proofs.Order.{mul_pos_ℤ, mul_nonneg_ℤ, add_nonneg_ℤ, nonneg_of_pos, nonneg_from_le, le_from_nonneg}
 use Rattle.whole_laws.proofs.Ring.{ring, v, num, ◌⊕◌, ◌⊖◌, ◌⊗◌}
+use Rattle.nearest.proofs.LowerBounds.{twice-nonneg}
 use Rattle.friction_lag.specs.Friction.{smooth_length, smooth_rate}
 
 -- what is divided, and by what
@@ -21,9 +22,6 @@ thrice_square-pos E h = mul_pos_ℤ (pos 3) (E *ℤ E) (record { lt = tt }) (mul
 
 minus-nonneg : (a b : ℤ) → a ≤ℤ b → pos 0 ≤ℤ (b -ℤ a)
 minus-nonneg = nonneg_from_le
-
-twice-nonneg : (a : ℤ) → pos 0 ≤ℤ a → pos 0 ≤ℤ (pos 2 *ℤ a)
-twice-nonneg a h = omega (arith, ints)
 
 -- 3E³ less the cubic is (E − Y)·(2E² + Y·(E + (E − Y)))
 cubic_high : (Y E : ℤ) → pos 0 ≤ℤ Y → Y ≤ℤ E → cubic Y E ≤ℤ (thrice_square E *ℤ E)

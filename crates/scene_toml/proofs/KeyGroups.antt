@@ -14,7 +14,7 @@ use Rattle.scene_toml.specs.declared.scene.Scene.{Scene}
 use Rattle.scene_toml.specs.Calls.{files_in, files_of, forces_in, forces_of, frames_in, frames_of, integer_at, integer_or_at, snap_at, text_at, vector_at}
 use Rattle.scene_toml.specs.Keys.{key}
 use Rattle.scene_toml.specs.Reading.{read_keys}
-use Rattle.scene_toml.specs.Readings.{body_keys, file_keys, force_keys, frame_keys, no_numbers, no_scene}
+use Rattle.scene_toml.specs.Readings.{body_keys, force_keys, frame_keys, no_numbers, no_scene}
 use Rattle.scene_toml.specs.Scenes.{scene_in}
 use Rattle.scene_toml.specs.Values.{and_then}
 

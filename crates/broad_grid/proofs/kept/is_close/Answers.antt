@@ -1,5 +1,5 @@
 use Rattle.boundary.proofs.SurfaceParts.{first_is_edge, second_is_edge, second_is_triangle}
-use Rattle.std.proofs.Common.{get_or, inl, inr, [], refl}
+use Rattle.std.proofs.Common.{get_or, inl, inr, []}
 use Rattle.broad_grid.proofs.PlacedParts.{placed}
 use Rattle.broad_grid.proofs.kept.is_close.Goals as goal
 
