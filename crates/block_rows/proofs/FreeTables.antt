@@ -4,7 +4,7 @@ use Rattle.std.specs.Prelude.{◌==◌, ◌&&◌, ◌||◌, not, if◌then◌els
 use Rattle.std.proofs.lemmas.Bool.{cases_Bool}
 use Rattle.std.proofs.lemmas.Bool.Decides.{eqb_tells}
 use Rattle.vec_q.specs.Matrices.{M3}
-use Rattle.block_rows.specs.Tables.{Table, cut_block, cut_table, free_table, no_block, sum_of_blocks, unit_block, with_block}
+use Rattle.block_rows.specs.Tables.{Table, cut_table, free_table, no_block, sum_of_blocks, with_block}
 
 -- two places of which one alone is held are different
 other_place : (held : ℕ → ℕ → Bool) (row column i j : ℕ) (a : Bool) → held row column ≡ a → held i j ≡ not a → ((row == i) && (column == j)) ≡ false

@@ -6,6 +6,7 @@ mod barriers;
 mod blocks;
 mod bodies;
 mod contacts;
+mod fixed;
 mod friction;
 mod inertia;
 mod laws;
