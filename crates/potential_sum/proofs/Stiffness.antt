@@ -1,10 +1,10 @@
 -- Sums of blocks, and tables to which the blocks of contributions are added.
-use Rattle.std.proofs.Common.{◌≡◌, ◌∙◌, ℕ, ◌+◌, ◌*◌, ◌<◌, ℤ, pos, ◌+ℤ◌, Bool, true, false, List, [], ◌∷◌, ◌++◌, length, map, take, get_or, refl, ap, sym, subst, arith}
-use Rattle.std.specs.Prelude.{◌==◌, ◌&&◌, All, IfNone, Option, None, Some, if◌then◌else◌, slice_index}
+use Rattle.std.proofs.Common.{◌≡◌, ◌∙◌, ℕ, ◌+◌, ◌*◌, ◌<◌, ◌≤◌, ℤ, pos, ◌+ℤ◌, Bool, true, false, List, [], ◌∷◌, ◌++◌, length, map, take, get_or, refl, ap, sym, subst, arith}
+use Rattle.std.specs.Prelude.{◌==◌, ◌&&◌, ◌||◌, All, IfNone, Option, None, Some, if◌then◌else◌, slice_index}
 use Rattle.std.specs.List.{flat_map, range_with_len}
 use Rattle.std.proofs.lemmas.Bool.Decides.{nat_tests}
 use Rattle.std.proofs.lemmas.Int.{ints}
-use Rattle.std.proofs.lemmas.List.{map-append, map_more}
+use Rattle.std.proofs.lemmas.List.{map-append, map_more, take_all}
 use Rattle.std.proofs.lemmas.List.Elements.{All-head, All-tail}
 use Rattle.std.proofs.lemmas.List.FromFn.{map-range_with_len_more}
 use Rattle.list_laws.proofs.CountedWrites.{All-counted, get_or-counted}
@@ -16,9 +16,12 @@ use Rattle.vec_q.specs.Rows.{matrix_of, rows_of}
 use Rattle.vec_q.specs.Widths.{AreBelow}
 use Rattle.inertia_term.specs.Inertia.{inertia_block}
 use Rattle.block_rows.specs.Stored.{StoredSums, nodes_of, table_of}
-use Rattle.block_rows.specs.Tables.{Table, no_block, sum_of_blocks, with_block, zeros}
+use Rattle.block_rows.specs.Tables.{Table, free_table, no_block, sum_of_blocks, with_block, zeros}
+use Rattle.block_rows.proofs.AddedEntries.{is_other}
+use Rattle.block_rows.proofs.FreeTables.{free_again, free_agree, free_at}
 use Rattle.potential_sum.specs.Contributions.{Contribution}
 use Rattle.potential_sum.specs.Matrix.{block_total, stiffness_at}
+use Rattle.potential_sum.specs.Calls.Fixed.{AreAllFixed}
 use Rattle.potential_sum.specs.Calls.Stiffness.{AreSixteenSmall, HasNoBlocks, HaveMore, at_pair, between, block_at, blocks_in, four_rows, in_row, in_rows, inertia_table, sixteen, sixteen_of, stiffness_of, stiffness_of_one, sum_of_tables}
 
 -- ---- sums of blocks
@@ -76,20 +79,49 @@ with_one i j block table = λ t. λ row column. at_place (row == i) (column == j
 
 -- ---- sums with more
 pub nothing_more : (sums : StoredSums) → HaveMore (λ row column. no_block) 0 sums sums
-nothing_more sums = record { nodes = refl; table = sym (λ t. λ row column. none_right (table_of sums.rows row column) t); count = omega arith }
-
-pub more_again : (a b c : StoredSums) (s t : Table) (m n : ℕ) → HaveMore s m a b → HaveMore t n b c → HaveMore (sum_of_tables s t) (m + n) a c
-more_again a b c s t m n h k = record {
-  nodes = k.nodes ∙ h.nodes;
-  table = k.table ∙ ap (λ (u : Table). sum_of_tables u t) h.table ∙ (λ i. λ row column. regrouped (table_of a.rows row column) (s row column) (t row column) i);
-  count = omega (arith, h.count, k.count);
+nothing_more sums = record {
+  fixed = refl;
+  nodes = refl;
+  table = ap (free_table sums.fixed) (sym (λ t. λ row column. none_right (table_of sums.rows row column) t));
+  count = omega arith;
 }
 
-pub more_as : (a b : StoredSums) (s t : Table) (m n : ℕ) → HaveMore s m a b → s ≡ t → m ≡ n → HaveMore t n a b
-more_as a b s t m n h e f = record { nodes = h.nodes; table = h.table ∙ ap (sum_of_tables (table_of a.rows)) e; count = omega (arith, h.count, f) }
+-- what stands at free nodes tells what stands there once more is added
+free_of_sum : (fixed : List Bool) (a b : Table) → free_table fixed (sum_of_tables (free_table fixed a) b) ≡ free_table fixed (sum_of_tables a b)
+free_of_sum fixed a b =
+    free_agree fixed (sum_of_tables (free_table fixed a) b) (sum_of_tables a b)
+    (λ row column free. ap (λ m. sum_of_blocks m (b row column)) (free_at fixed a row column free))
 
-pub one_more : (a b : StoredSums) (i j : ℕ) (block : M3) → nodes_of b.rows ≡ nodes_of a.rows → table_of b.rows ≡ with_block i j block (table_of a.rows) → b.added ≡ a.added + 1 → HaveMore (at_pair i j block) 1 a b
-one_more a b i j block nodes table count = record { nodes = nodes; table = table ∙ with_one i j block (table_of a.rows); count = omega (arith, count) }
+pub more_again : (a b c : StoredSums) (s t : Table) (m n : ℕ) → HaveMore s m a b → HaveMore t n b c → HaveMore (sum_of_tables s t) (m + n) a c
+more_again a b c s t m n h k =
+    let fixed = a.fixed in
+    record {
+      fixed = k.fixed ∙ h.fixed;
+      nodes = k.nodes ∙ h.nodes;
+      table = subst (λ (flags : List Bool). free_table flags (table_of c.rows) ≡ free_table flags (sum_of_tables (table_of b.rows) t)) h.fixed k.table
+          ∙ sym (free_of_sum fixed (table_of b.rows) t)
+          ∙ ap (λ (u : Table). free_table fixed (sum_of_tables u t)) h.table
+          ∙ free_of_sum fixed (sum_of_tables (table_of a.rows) s) t
+          ∙ ap (free_table fixed) (λ i. λ row column. regrouped (table_of a.rows row column) (s row column) (t row column) i);
+      count = omega (arith, h.count, k.count);
+    }
+
+pub more_as : (a b : StoredSums) (s t : Table) (m n : ℕ) → HaveMore s m a b → s ≡ t → m ≡ n → HaveMore t n a b
+more_as a b s t m n h e f = record {
+  fixed = h.fixed;
+  nodes = h.nodes;
+  table = h.table ∙ ap (λ (u : Table). free_table a.fixed (sum_of_tables (table_of a.rows) u)) e;
+  count = omega (arith, h.count, f);
+}
+
+pub one_more : (a b : StoredSums) (i j : ℕ) (block : M3) → b.fixed ≡ a.fixed → nodes_of b.rows ≡ nodes_of a.rows → table_of b.rows ≡ free_table a.fixed (with_block i j block (table_of a.rows)) → b.added ≡ a.added + 1
+    → HaveMore (at_pair i j block) 1 a b
+one_more a b i j block fixed nodes table count = record {
+  fixed = fixed;
+  nodes = nodes;
+  table = ap (free_table a.fixed) table ∙ free_again a.fixed (with_block i j block (table_of a.rows)) ∙ ap (free_table a.fixed) (with_one i j block (table_of a.rows));
+  count = omega (arith, count);
+}
 
 -- ---- four blocks, and four times four
 pub in_row_more : (i : ℕ) (node : ℕ → ℕ) (block : ℕ → M3) (k : ℕ) → sum_of_tables (in_row i node block k) (at_pair i (node k) (block k)) ≡ in_row i node block (k + 1)
@@ -127,6 +159,11 @@ part_more f xs i d a b c there h k =
     more_as a c (sum_of_tables (stiffness_of done) (stiffness_of_one next)) (stiffness_of (map f (take (i + 1) xs))) (16 * i + 16) (16 * (i + 1))
     (more_again a b c (stiffness_of done) (stiffness_of_one next) (16 * i) 16 h k)
     (stiffness_of-push done next ∙ ap stiffness_of (sym (map_more f xs i d there))) (omega arith)
+
+-- those of all elements
+pub all_parts : {X : Type 0} (f : X → Contribution) (xs : List X) (i : ℕ) (a b : StoredSums) → i ≤ length xs → length xs ≤ i → HaveMore (stiffness_of (map f (take i xs))) (16 * i) a b → HaveMore (stiffness_of (map f xs)) (16 * length xs) a b
+all_parts f xs i a b within past h =
+    more_as a b (stiffness_of (map f (take i xs))) (stiffness_of (map f xs)) (16 * i) (16 * length xs) h (ap (λ ys. stiffness_of (map f ys)) (take_all i xs past)) (omega arith)
 
 -- ---- sixteen blocks of four nodes
 module _ (f : (i j : ℕ) → M3) where
@@ -176,33 +213,64 @@ part_added part a b nodes blocks four e f h =
     ∙ ap (λ ns. between ns part.blocks) e) refl
 
 -- ---- blocks without an entry
-no_row : (f : ℕ → M3) (xs : List ℕ) → ((x : ℕ) → f x ≡ no_block) → block_total (map f xs) ≡ no_block
+no_row : (f : ℕ → M3) (xs : List ℕ) → All (λ x. f x ≡ no_block) xs → block_total (map f xs) ≡ no_block
 no_row f [] h = refl
-no_row f (x ∷ xs) h = (λ t. sum_of_blocks (h x t) (no_row f xs h t)) ∙ none_left no_block
+no_row f (x ∷ xs) h = (λ t. sum_of_blocks (All-head (λ y. f y ≡ no_block) x xs h t) (no_row f xs (All-tail (λ y. f y ≡ no_block) x xs h) t)) ∙ none_left no_block
 
-no_rows : (f : ℕ → List M3) (xs : List ℕ) → ((x : ℕ) → block_total (f x) ≡ no_block) → block_total (flat_map f xs) ≡ no_block
+no_rows : (f : ℕ → List M3) (xs : List ℕ) → All (λ x. block_total (f x) ≡ no_block) xs → block_total (flat_map f xs) ≡ no_block
 no_rows f [] h = refl
-no_rows f (x ∷ xs) h = block_total-append (f x) (flat_map f xs) ∙ (λ t. sum_of_blocks (h x t) (no_rows f xs h t)) ∙ none_left no_block
+no_rows f (x ∷ xs) h =
+    block_total-append (f x) (flat_map f xs)
+    ∙ (λ t. sum_of_blocks (All-head (λ y. block_total (f y) ≡ no_block) x xs h t) (no_rows f xs (All-tail (λ y. block_total (f y) ≡ no_block) x xs h) t))
+    ∙ none_left no_block
 
--- such a contribution adds nothing
-pub none_added : (part : Contribution) (sums : StoredSums) → HasNoBlocks part → HaveMore (stiffness_of_one part) 16 sums sums
-none_added part sums h = more_as sums sums (λ row column. no_block) (stiffness_of_one part) 16 16 (record { nodes = refl; table = (nothing_more sums).table; count = omega arith }) (sym (λ t. λ row column. each row column t)) refl
+-- a contribution of which no block stands at a row and a column
+nothing_there : (part : Contribution) (row column : ℕ)
+    → ((i j : ℕ) → i < length part.nodes → j < length part.nodes → at_pair (slice_index part.nodes i) (slice_index part.nodes j) (part.blocks i j) row column ≡ no_block) → stiffness_at row column part ≡ no_block
+nothing_there part row column h =
+    no_rows (λ i. map (at i) (range_with_len 0 n)) (range_with_len 0 n) (All-counted (λ i. block_total (map (at i) (range_with_len 0 n)) ≡ no_block) n (λ i first.
+    no_row (at i) (range_with_len 0 n) (All-counted (λ j. at i j ≡ no_block) n (λ j second. h i j first second))))
   where
     n : ℕ
     n = length part.nodes
 
-    at : (row column i j : ℕ) → M3
-    at row column i j = at_pair (slice_index part.nodes i) (slice_index part.nodes j) (part.blocks i j) row column
+    at : (i j : ℕ) → M3
+    at i j = at_pair (slice_index part.nodes i) (slice_index part.nodes j) (part.blocks i j) row column
 
+-- what is nothing at free nodes changes nothing there
+nothing_added : (part : Contribution) (sums : StoredSums)
+    → ((row column : ℕ) → (get_or sums.fixed row false || get_or sums.fixed column false) ≡ false → stiffness_at row column part ≡ no_block) → HaveMore (stiffness_of_one part) 16 sums sums
+nothing_added part sums h = record {
+  fixed = refl;
+  nodes = refl;
+  table = free_agree sums.fixed (table_of sums.rows) (sum_of_tables (table_of sums.rows) (stiffness_of_one part))
+      (λ row column free. sym (ap (sum_of_blocks (table_of sums.rows row column)) (h row column free) ∙ none_right (table_of sums.rows row column)));
+  count = omega arith;
+}
+
+-- such a contribution adds nothing
+pub none_added : (part : Contribution) (sums : StoredSums) → HasNoBlocks part → HaveMore (stiffness_of_one part) 16 sums sums
+none_added part sums h = nothing_added part sums (λ row column free. nothing_there part row column (λ i j first second.
+    either ((slice_index part.nodes i == row) && (slice_index part.nodes j == column)) (part.blocks i j) (h.none i j)))
+  where
     either : (b : Bool) (m : M3) → m ≡ no_block → (if b then m else no_block) ≡ no_block
     either true m e = e
     either false m e = refl
 
-    each : (row column : ℕ) → stiffness_at row column part ≡ no_block
-    each row column =
-        no_rows (λ i. map (at row column i) (range_with_len 0 n)) (range_with_len 0 n) (λ i.
-        no_row (at row column i) (range_with_len 0 n) (λ j.
-        either ((slice_index part.nodes i == row) && (slice_index part.nodes j == column)) (part.blocks i j) (h.none i j)))
+-- nor does one between fixed nodes
+pub fixed_added : (part : Contribution) (sums : StoredSums) → AreAllFixed sums.fixed part.nodes → HaveMore (stiffness_of_one part) 16 sums sums
+fixed_added part sums h = nothing_added part sums (λ row column free. nothing_there part row column (λ i j first second.
+    elsewhere row column i j (is_other (slice_index part.nodes i) row (λ same. other (sym (h i 0 first) ∙ ap (λ node. get_or sums.fixed node false) same ∙ left_free (get_or sums.fixed row false) (get_or sums.fixed column false) free)))))
+  where
+    elsewhere : (row column i j : ℕ) → (slice_index part.nodes i == row) ≡ false → at_pair (slice_index part.nodes i) (slice_index part.nodes j) (part.blocks i j) row column ≡ no_block
+    elsewhere row column i j e = rw e refl
+
+    other : true ≡ false → ⊥
+    other e = cc
+
+    left_free : (a b : Bool) → (a || b) ≡ false → a ≡ false
+    left_free true b e = e
+    left_free false b e = refl
 
 -- ---- inertia
 pub inertia_more : (masses : List ℤ) (k : ℕ) → sum_of_tables (inertia_table masses k) (at_pair k k (inertia_block (get_or masses k (pos 0)))) ≡ inertia_table masses (k + 1)
@@ -215,8 +283,8 @@ inertia_more masses k = λ t. λ row column. each row column t
     each row column = sym (ap block_total (map-range_with_len_more (at row column) 0 k k (omega arith)) ∙ block_total-push (map (at row column) (range_with_len 0 k)) (at row column k))
 
 -- ---- all that is added
-pub from_nothing : (a b : StoredSums) (t : Table) (m : ℕ) → table_of a.rows ≡ zeros → HaveMore t m a b → table_of b.rows ≡ t
-from_nothing a b t m e h = h.table ∙ ap (λ (u : Table). sum_of_tables u t) e ∙ (λ i. λ row column. none_left (t row column) i)
+pub from_nothing : (a b : StoredSums) (t : Table) (m : ℕ) → table_of a.rows ≡ zeros → HaveMore t m a b → free_table a.fixed (table_of b.rows) ≡ free_table a.fixed t
+from_nothing a b t m e h = h.table ∙ ap (λ (u : Table). free_table a.fixed (sum_of_tables u t)) e ∙ ap (free_table a.fixed) (λ i. λ row column. none_left (t row column) i)
 
 pub four_kinds : (first : Table) (xs ys zs : List Contribution) → sum_of_tables (sum_of_tables (sum_of_tables first (stiffness_of xs)) (stiffness_of ys)) (stiffness_of zs) ≡ sum_of_tables first (stiffness_of (xs ++ ys ++ zs))
 four_kinds first xs ys zs =

@@ -10,6 +10,7 @@ mod barriers;
 mod blocks;
 mod bodies;
 mod contacts;
+mod fixed;
 mod friction;
 mod inertia;
 mod laws;

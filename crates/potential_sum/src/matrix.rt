@@ -4,6 +4,7 @@ ghost use Rattle.whole_laws.specs.Ranges.{IsFrom};
 ghost use Rattle.surface_mesh.specs.declared.sturdy.TheConstants.{MOST_MASS};
 ghost use Rattle.block_rows.specs.declared.sums.TheConstants.{MOST_ADDED};
 ghost use Rattle.block_rows.specs.Stored.{nodes_of, table_of};
+ghost use Rattle.block_rows.specs.Tables.{free_table};
 ghost use Rattle.potential_sum.specs.declared.contacts.TheConstants.{MOST_CLOSE};
 ghost use Rattle.friction_lag.specs.Lagged.{lagged_in};
 ghost use Rattle.surface_mesh.specs.Materials.{AreNumbers};
@@ -16,6 +17,7 @@ ghost use Rattle.potential_sum.specs.Contributions.{barrier_contribution, elasti
 use crate::barriers::{TwoParts, parts_of};
 use crate::blocks::add_blocks;
 use crate::bodies::Body;
+use crate::fixed::are_all_fixed;
 use crate::friction::blocks_of;
 use block_rows::Sums;
 use boundary::Pair;
@@ -25,7 +27,7 @@ use space3::Places;
 use std::alloc::{AllocError, Global};
 use surface_mesh::{Numbers, Setup};
 
-// The sums of the blocks of all contributions.
+// The sums of the blocks of all contributions at free nodes.
 pub(crate) fn block_sums(
     alloc: Global,
     setup: &Setup,
@@ -35,6 +37,7 @@ pub(crate) fn block_sums(
     x: &Places,
 ) -> Result<Sums, AllocError>
     requires each_mass { length setup.now.mass ≡ length x.now }
+    requires each_flag { length setup.now.fixed ≡ length x.now }
     requires masses { All (IsFrom (pos 0) MOST_MASS) setup.now.mass }
     requires numbers { AreNumbers setup.now.numbers }
     requires few_nodes { length x.now ≤ 16384 }
@@ -44,14 +47,16 @@ pub(crate) fn block_sums(
     requires stand { All (λ body. MayStand x.now (elastic_in body)) bodies.now }
     requires close { All (IsClosePair setup.now x.now) pairs.now }
     requires slide { All (λ contact. MaySlide x.now (lagged_in contact)) contacts.now }
+    ensures fixed { IfOk result (λ made. made.fixed ≡ setup.now.fixed) }
     ensures nodes { IfOk result (λ made. nodes_of made.rows ≡ length x.now) }
-    ensures table { IfOk result (λ made. table_of made.rows ≡
-        sum_of_tables (inertia_table setup.now.mass (length x.now)) (stiffness_of
+    ensures table { IfOk result (λ made. free_table setup.now.fixed (table_of made.rows) ≡
+        free_table setup.now.fixed
+        (sum_of_tables (inertia_table setup.now.mass (length x.now)) (stiffness_of
         (map (λ body. elastic_contribution x.now (elastic_in body)) bodies.now
         ++ map (barrier_at setup.now x.now) pairs.now
-        ++ map (friction_at setup.now.numbers x.now) contacts.now))) }
+        ++ map (friction_at setup.now.numbers x.now) contacts.now)))) }
 {
-    let mut sums = Sums::open(alloc, x.len())?;
+    let mut sums = Sums::open(alloc, setup.fixed.items())?;
     add_inertia_blocks(&mut sums, setup.mass.items())?;
     add_elastic_blocks(&mut sums, bodies, x)?;
     add_barrier_blocks(&mut sums, setup, x, pairs)?;
@@ -85,9 +90,23 @@ fn add_elastic_blocks(sums: &mut Sums, bodies: &[Body], x: &Places) -> Result<()
         (16 * length bodies.now) sums.old sums.new) }
 {
     for body in bodies {
-        add_blocks(sums, &body.nodes, &body.blocks(x))?;
+        add_body_blocks(sums, body, x)?;
     }
     Ok(())
+}
+
+// Adds what elasticity gives between the nodes of a tetrahedron.
+fn add_body_blocks(sums: &mut Sums, body: &Body, x: &Places) -> Result<(), AllocError>
+    requires each { nodes_of sums.old.rows ≡ length x.now }
+    requires stand { MayStand x.now (elastic_in body.now) }
+    requires room { sums.old.added + 16 ≤ MOST_ADDED }
+    ensures { IfOk result (λ _. HaveMore (stiffness_of_one
+        (elastic_contribution x.now (elastic_in body.now))) 16 sums.old sums.new) }
+{
+    if are_all_fixed(sums.fixed(), &body.nodes) {
+        return Ok(());
+    }
+    add_blocks(sums, &body.nodes, &body.blocks(x))
 }
 
 // Adds what barriers give between the nodes of each pair.
@@ -125,6 +144,9 @@ fn add_pair_blocks(
     ensures { IfOk result (λ _. HaveMore (stiffness_of_one
         (barrier_contribution numbers.now x.now (parts_in parts.now))) 16 sums.old sums.new) }
 {
+    if are_all_fixed(sums.fixed(), &parts.nodes) {
+        return Ok(());
+    }
     match parts.blocks(numbers, x) {
         Some(blocks) => add_blocks(sums, &parts.nodes, &blocks),
         None => Ok(()),
@@ -146,7 +168,27 @@ fn add_friction_blocks(
         (16 * length contacts.now) sums.old sums.new) }
 {
     for contact in contacts {
-        add_blocks(sums, &contact.nodes, &blocks_of(contact, numbers, x))?;
+        add_contact_blocks(sums, numbers, x, contact)?;
     }
     Ok(())
+}
+
+// Adds what friction gives between the nodes of a contact.
+fn add_contact_blocks(
+    sums: &mut Sums,
+    numbers: &Numbers,
+    x: &Places,
+    contact: &Contact,
+) -> Result<(), AllocError>
+    requires each { nodes_of sums.old.rows ≡ length x.now }
+    requires numbers { AreNumbers numbers.now }
+    requires slide { MaySlide x.now (lagged_in contact.now) }
+    requires room { sums.old.added + 16 ≤ MOST_ADDED }
+    ensures { IfOk result (λ _. HaveMore (stiffness_of_one
+        (friction_at numbers.now x.now contact.now)) 16 sums.old sums.new) }
+{
+    if are_all_fixed(sums.fixed(), &contact.nodes) {
+        return Ok(());
+    }
+    add_blocks(sums, &contact.nodes, &blocks_of(contact, numbers, x))
 }

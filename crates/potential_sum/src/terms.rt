@@ -162,7 +162,7 @@ impl Terms {
             self.contacts.as_slice(),
             x,
         )?;
-        let rows = sums.finish(alloc, setup.fixed.items())?;
+        let rows = sums.finish(alloc)?;
         Ok(rows)
     }
 

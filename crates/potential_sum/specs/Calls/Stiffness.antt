@@ -6,7 +6,7 @@ use Rattle.vec_q.specs.Rows.{matrix_of, rows_of}
 use Rattle.vec_q.specs.Widths.{AreBelow}
 use Rattle.inertia_term.specs.Inertia.{inertia_block}
 use Rattle.block_rows.specs.Stored.{StoredSums, nodes_of, table_of}
-use Rattle.block_rows.specs.Tables.{Table, no_block, sum_of_blocks}
+use Rattle.block_rows.specs.Tables.{Table, free_table, no_block, sum_of_blocks}
 use Rattle.potential_sum.specs.Contributions.{Contribution}
 use Rattle.potential_sum.specs.Matrix.{block_total, stiffness_at}
 
@@ -37,10 +37,11 @@ between nodes block = in_rows nodes block (length nodes)
 abbrev pub stiffness_of : List Contribution → Table
 stiffness_of parts row column = block_total (map (stiffness_at row column) parts)
 
--- sums to which this table was added, as so many blocks at most
+-- sums to which this table was added, as so many blocks at most: what stands at free nodes is the sum
 pub record HaveMore (more : Table) (many : ℕ) (before after : StoredSums) : Type 0 where
+  pub fixed : after.fixed ≡ before.fixed
   pub nodes : nodes_of after.rows ≡ nodes_of before.rows
-  pub table : table_of after.rows ≡ sum_of_tables (table_of before.rows) more
+  pub table : free_table before.fixed (table_of after.rows) ≡ free_table before.fixed (sum_of_tables (table_of before.rows) more)
   pub count : after.added ≤ before.added + many
 
 -- blocks by their rows: four for each of four nodes

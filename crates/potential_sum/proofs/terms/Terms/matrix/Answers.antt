@@ -1,6 +1,8 @@
-use Rattle.std.proofs.Common.{◌≡◌, ◌∙◌, map, length, ap, subst, sym}
+use Rattle.std.proofs.Common.{◌≡◌, ◌∙◌, Bool, List, map, ap, subst, sym}
 use Rattle.std.specs.Prelude.{All}
+use Rattle.block_rows.specs.Stored.{table_of}
 use Rattle.block_rows.specs.Tables.{cut_table}
+use Rattle.block_rows.proofs.FreeTables.{cut_of_free}
 use Rattle.friction_lag.specs.Lagged.{lagged_in}
 use Rattle.surface_mesh.proofs.SetupFacts.{fixed_length, mass_length}
 use Rattle.potential_sum.specs.Bodies.{elastic_tets}
@@ -14,6 +16,9 @@ use Rattle.potential_sum.proofs.terms.Terms.matrix.Goals as goal
 
 pub block_sums-requires-clause-each_mass : goal.block_sums-requires-clause-each_mass
 block_sums-requires-clause-each_mass c = mass_length c.args.setup.now c.requires.built ∙ sym c.requires.pose.each
+
+pub block_sums-requires-clause-each_flag : goal.block_sums-requires-clause-each_flag
+block_sums-requires-clause-each_flag c = fixed_length c.args.setup.now c.requires.built ∙ sym c.requires.pose.each
 
 pub block_sums-requires-clause-few_pairs : goal.block_sums-requires-clause-few_pairs
 block_sums-requires-clause-few_pairs c = found_are_few c.args.setup.now c.args.x.now c.items.result.now c.requires.built (c.items.ensures ∙ c.in_ok-pairs.ensures)
@@ -31,9 +36,6 @@ block_sums-requires-clause-slide c =
     held_may_slide c.args.setup.now c.args.x.now c.as_slice-2.result.now c.args.self.now.frame.contacts c.requires.built c.requires.pose c.requires.stand.contacts
     (ap (map lagged_in) c.as_slice-2.ensures.value ∙ ap (λ (t : KeptTerms). t.frame.contacts) c.self.view_is)
 
-pub finish-requires : goal.finish-requires
-finish-requires c = ap length c.items-2.ensures ∙ fixed_length c.args.setup.now c.requires.built ∙ sym c.requires.pose.each ∙ sym c.in_ok-sums.ensures.nodes
-
 pub returns-clause-table : goal.returns-clause-table
 returns-clause-table c =
     let setup = c.args.setup.now in
@@ -41,5 +43,8 @@ returns-clause-table c =
     let contacts = c.as_slice-2.result.now in
     let kept : map elastic_in bodies ≡ elastic_tets setup = ap (map elastic_in) c.as_slice.ensures.value ∙ ap (λ (t : KeptTerms). t.elastic) c.self.view_is ∙ c.requires.stand.elastic in
     let lagged : map lagged_in contacts ≡ c.args.self.now.frame.contacts = ap (map lagged_in) c.as_slice-2.ensures.value ∙ ap (λ (t : KeptTerms). t.frame.contacts) c.self.view_is in
+    let sums = table_of c.in_ok-sums.sums.rows in
     c.in_ok-rows.ensures.table
-    ∙ (λ i. cut_table (c.items-2.ensures i) ((c.in_ok-sums.ensures.table ∙ stiffness-kept setup c.args.self.now.frame c.args.x.now bodies c.items.result.now contacts c.requires.pose.each kept (c.items.ensures ∙ c.in_ok-pairs.ensures) lagged) i))
+    ∙ ap (λ (fixed : List Bool). cut_table fixed sums) c.in_ok-sums.ensures.fixed
+    ∙ sym (cut_of_free setup.fixed sums) ∙ ap (cut_table setup.fixed) c.in_ok-sums.ensures.table ∙ cut_of_free setup.fixed _
+    ∙ ap (cut_table setup.fixed) (stiffness-kept setup c.args.self.now.frame c.args.x.now bodies c.items.result.now contacts c.requires.pose.each kept (c.items.ensures ∙ c.in_ok-pairs.ensures) lagged)
