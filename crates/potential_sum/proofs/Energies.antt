@@ -8,8 +8,7 @@ use Rattle.std.proofs.lemmas.Simd.{map-map}
 use Rattle.std.proofs.lemmas.Int.{ints, to_z-of_z, fits_signed_from_abs}
 use Rattle.whole_laws.proofs.Order.{size_sum}
 use Rattle.list_laws.specs.Sums.{total}
-use Rattle.num_q.specs.Rounding.{cut_of, floor_of}
-use Rattle.num_q.proofs.Bounds.{cut_below}
+use Rattle.num_q.specs.Rounding.{floor_of}
 use Rattle.space3.specs.declared.vectors.V3.{V3}
 use Rattle.space3.specs.Vectors.{AtMost, dot_product}
 use Rattle.space3.specs.Mesh.{place_of}
@@ -32,6 +31,7 @@ use Rattle.friction_lag.specs.declared.contacts.Contact.{Contact}
 use Rattle.friction_lag.specs.Contacts.{LaggedContact}
 use Rattle.friction_lag.specs.Lagged.{lagged_in}
 use Rattle.friction_lag.proofs.Sizes.{energy_is_small}
+use Rattle.vec_q.proofs.CutVectors.{cut_at_most}
 use Rattle.potential_sum.specs.declared.bodies.Body.{Body}
 use Rattle.potential_sum.specs.Bodies.{ElasticTet, corners_at, elastic_tets}
 use Rattle.potential_sum.specs.Calls.Barriers.{barrier_at}
@@ -42,10 +42,6 @@ use Rattle.potential_sum.specs.Contributions.{Contribution, barrier_contribution
 use Rattle.potential_sum.specs.Contacts.{close_parts}
 use Rattle.potential_sum.specs.Potential.{potential}
 use Rattle.potential_sum.specs.Terms.{FrameTerms}
-
--- a number that was cut is small
-pub cut-small : (b : ℕ) (z : ℤ) → AtMost (2 ^ b) (cut_of b z)
-cut-small b z = record { bound = omega (arith, cut_below b z) }
 
 -- a sum of i numbers of at most 2^90 each, and one such number more
 pub record IsAdded (before after : List ℤ) (i : ℕ) (a r : ℤ) : Type 0 where
@@ -78,13 +74,13 @@ total-append (x ∷ xs) ys = ap (λ (t : ℤ). x +ℤ t) (total-append xs ys) �
 -- the energy of each contribution is small
 pub inertia-small : (mass : ℤ) (place target : V3) → AtMost (2 ^ 90) (inertia_energy mass place target)
 inertia-small mass place target =
-    let offset = offset_of place target in cut-small 90 (floor_of (mass *ℤ dot_product offset offset) (pos 65536))
+    let offset = offset_of place target in cut_at_most 90 (floor_of (mass *ℤ dot_product offset offset) (pos 65536))
 
 pub elastic-small : (places : List V3) (tet : ElasticTet) → AtMost (2 ^ 90) (elastic_contribution places tet).energy
 elastic-small places tet =
     let edges = edge_matrix (corners_at places tet.nodes) in
     let log = log_volume tet.rest edges in
-    cut-small 90 (stretch_energy tet.mu tet.rest.r (squared_strain tet.rest edges) +ℤ shear_energy tet.mu tet.rest.r log +ℤ volume_energy tet.lambda tet.rest.r log)
+    cut_at_most 90 (stretch_energy tet.mu tet.rest.r (squared_strain tet.rest edges) +ℤ shear_energy tet.mu tet.rest.r log +ℤ volume_energy tet.lambda tet.rest.r log)
 
 pub barrier-small : (numbers : Numbers) (places : List V3) (parts : PartPair) → AtMost (2 ^ 90) (barrier_contribution numbers places parts).energy
 barrier-small numbers places parts = where_active (nat_lt d e)
@@ -99,7 +95,7 @@ barrier-small numbers places parts = where_active (nat_lt d e)
     e = reach_of numbers.dhat
 
     where_active : (b : Bool) → AtMost (2 ^ 90) (if b then barrier_energy_at numbers.kappa d e else pos 0)
-    where_active true = cut-small 90 (floor_of (numbers.kappa *ℤ depth d e *ℤ depth d e *ℤ neg_ℤ (ln_ratio_of d e)) (pos (2 ^ 40)))
+    where_active true = cut_at_most 90 (floor_of (numbers.kappa *ℤ depth d e *ℤ depth d e *ℤ neg_ℤ (ln_ratio_of d e)) (pos (2 ^ 40)))
     where_active false = record { bound = omega arith }
 
 pub friction-small : (numbers : Numbers) (places : List V3) (contact : LaggedContact) → AtMost (2 ^ 90) (friction_contribution numbers places contact).energy

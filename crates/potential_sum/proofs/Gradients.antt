@@ -54,7 +54,7 @@ contributions-kept s frame x bodies pairs contacts e kept found lagged =
     images : {X Y : Type 0} (f : Y → Contribution) (g : X → Y) (xs : List X) (ys : List Y) → map g xs ≡ ys → map (λ x. f (g x)) xs ≡ map f ys
     images f g xs ys e = sym (map-map f g xs) ∙ ap (map f) e
 
-flat_map_agree : {A : Type 0} (f g : ℕ → List A) (xs : List ℕ) → All (λ x. f x ≡ g x) xs → flat_map f xs ≡ flat_map g xs
+pub flat_map_agree : {A : Type 0} (f g : ℕ → List A) (xs : List ℕ) → All (λ x. f x ≡ g x) xs → flat_map f xs ≡ flat_map g xs
 flat_map_agree f g [] h = refl
 flat_map_agree f g (x ∷ xs) h = λ i. All-head (λ y. f y ≡ g y) x xs h i ++ flat_map_agree f g xs (All-tail (λ y. f y ≡ g y) x xs h) i
 

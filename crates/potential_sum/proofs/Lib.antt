@@ -12,4 +12,5 @@ pub mod SmallBlocks
 pub mod Standing
 pub mod Stiffness
 pub mod Targets
+pub mod VectorSums
 pub mod Symmetry

@@ -30,7 +30,7 @@ use Rattle.potential_sum.specs.Calls.Inertia.{part_at, pull_of}
 use Rattle.potential_sum.specs.Calls.Kept.{MayStand}
 use Rattle.potential_sum.specs.Calls.Sums.{as_pull}
 use Rattle.potential_sum.specs.Contributions.{barrier_contribution, elastic_contribution, friction_contribution}
-use Rattle.potential_sum.proofs.Energies.{cut-small}
+use Rattle.vec_q.proofs.CutVectors.{cut_at_most}
 use Rattle.potential_sum.proofs.Lightness.{IsSmall, IsWeak}
 use Rattle.potential_sum.proofs.PullSums.{IsInside}
 
@@ -47,7 +47,7 @@ All-zip_right P (x ∷ xs) (y ∷ ys) h = All-cons (λ pair. P pair.1) (x, y) (z
 
 -- ---- inertia
 cut_vector : (x y z : ℤ) → Within (2 ^ 90) (record { x = cut_of 90 x; y = cut_of 90 y; z = cut_of 90 z })
-cut_vector x y z = record { x = cut-small 90 x; y = cut-small 90 y; z = cut-small 90 z }
+cut_vector x y z = record { x = cut_at_most 90 x; y = cut_at_most 90 y; z = cut_at_most 90 z }
 
 inertia-weak : (mass : ℤ) (place target : V3) → Within (2 ^ 90) (inertia_gradient mass place target)
 inertia-weak mass place target =

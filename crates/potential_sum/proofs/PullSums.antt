@@ -1,9 +1,8 @@
 -- Pulls that are added at their nodes, one after another, give the sum of all at each node.
-use Rattle.std.proofs.Common.{◌≡◌, ◌∙◌, ℕ, suc, ◌<◌, ℤ, pos, ◌+ℤ◌, Bool, true, false, List, [], ◌∷◌, ◌++◌, map, set, get_or, length, take, drop, replicate, refl, ap, sym, subst, arith, append_assoc}
+use Rattle.std.proofs.Common.{◌≡◌, ◌∙◌, ℕ, suc, ◌<◌, Bool, true, false, List, [], ◌∷◌, ◌++◌, map, set, get_or, length, take, drop, replicate, refl, ap, sym, subst, arith, append_assoc}
 use Rattle.std.specs.Prelude.{◌==◌, All, zip, if◌then◌else◌}
 use Rattle.std.specs.List.{range_with_len}
 use Rattle.std.proofs.lemmas.Bool.{eq-eqb, eqb-true, ne_eqb}
-use Rattle.std.proofs.lemmas.Int.{ints}
 use Rattle.std.proofs.lemmas.List.{get_or_default}
 use Rattle.std.proofs.lemmas.List.Elements.{All-head, All-tail}
 use Rattle.std.proofs.lemmas.List.FromFn.{length-map-range_with_len}
@@ -11,30 +10,13 @@ use Rattle.std.proofs.Math.Seq.{take-append_seam}
 use Rattle.list_laws.proofs.CountedWrites.{get_or-counted, replicate-counted, set-counted}
 use Rattle.space3.specs.declared.vectors.V3.{V3}
 use Rattle.space3.specs.declared.vectors.W3.{W3}
-use Rattle.space3.specs.Vectors.{Within, origin, vector, sum_of}
+use Rattle.space3.specs.Vectors.{Within, origin, sum_of}
 use Rattle.potential_sum.specs.Calls.Barriers.{AreDifferent}
+use Rattle.potential_sum.proofs.VectorSums.{origin-sum_of, sum_of-assoc, sum_of-origin}
 use Rattle.potential_sum.specs.Contributions.{Contribution, pull_at, sum_at, vector_total}
 use Rattle.potential_sum.specs.Calls.Sums.{as_pull, node_sums, nothing, pulls_of, wide, wide_sum, with_parts, with_pulls}
 
 -- ---- sums of vectors
-sum_of-origin : (a : V3) → sum_of a origin ≡ a
-sum_of-origin a = λ i. vector (each a.x i) (each a.y i) (each a.z i)
-  where
-    each : (a : ℤ) → a +ℤ pos 0 ≡ a
-    each a = omega (arith, ints)
-
-origin-sum_of : (a : V3) → sum_of origin a ≡ a
-origin-sum_of a = λ i. vector (each a.x i) (each a.y i) (each a.z i)
-  where
-    each : (a : ℤ) → pos 0 +ℤ a ≡ a
-    each a = omega (arith, ints)
-
-sum_of-assoc : (a b c : V3) → sum_of (sum_of a b) c ≡ sum_of a (sum_of b c)
-sum_of-assoc a b c = λ i. vector (each a.x b.x c.x i) (each a.y b.y c.y i) (each a.z b.z c.z i)
-  where
-    each : (a b c : ℤ) → (a +ℤ b) +ℤ c ≡ a +ℤ (b +ℤ c)
-    each a b c = omega (arith, ints)
-
 vector_total-push : (vs : List V3) (v : V3) → vector_total (vs ++ v ∷ []) ≡ sum_of (vector_total vs) v
 vector_total-push [] v = sum_of-origin v ∙ sym (origin-sum_of v)
 vector_total-push (w ∷ ws) v = ap (sum_of w) (vector_total-push ws v) ∙ sym (sum_of-assoc w (vector_total ws) v)

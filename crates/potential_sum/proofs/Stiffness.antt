@@ -1,16 +1,13 @@
 -- Sums of blocks, and tables to which the blocks of contributions are added.
-use Rattle.std.proofs.Common.{◌≡◌, ◌∙◌, ℕ, ◌+◌, ◌*◌, ◌<◌, ◌≤◌, ℤ, pos, ◌+ℤ◌, Bool, true, false, List, [], ◌∷◌, ◌++◌, length, map, take, get_or, refl, ap, sym, subst, arith}
+use Rattle.std.proofs.Common.{◌≡◌, ◌∙◌, ℕ, ◌+◌, ◌*◌, ◌<◌, ◌≤◌, ℤ, pos, Bool, true, false, List, [], ◌∷◌, ◌++◌, length, map, take, get_or, refl, ap, sym, subst, arith}
 use Rattle.std.specs.Prelude.{◌==◌, ◌&&◌, ◌||◌, All, IfNone, Option, None, Some, if◌then◌else◌, slice_index}
 use Rattle.std.specs.List.{flat_map, range_with_len}
 use Rattle.std.proofs.lemmas.Bool.Decides.{nat_tests}
-use Rattle.std.proofs.lemmas.Int.{ints}
 use Rattle.std.proofs.lemmas.List.{map-append, map_more, take_all}
 use Rattle.std.proofs.lemmas.List.Elements.{All-head, All-tail}
 use Rattle.std.proofs.lemmas.List.FromFn.{map-range_with_len_more}
 use Rattle.list_laws.proofs.CountedWrites.{All-counted, get_or-counted}
 use Rattle.list_laws.proofs.Pushes.{flat_map_counted_more}
-use Rattle.space3.specs.declared.vectors.V3.{V3}
-use Rattle.space3.specs.Vectors.{origin, sum_of, vector}
 use Rattle.vec_q.specs.Matrices.{M3, columns}
 use Rattle.vec_q.specs.Rows.{matrix_of, rows_of}
 use Rattle.vec_q.specs.Widths.{AreBelow}
@@ -23,37 +20,21 @@ use Rattle.potential_sum.specs.Contributions.{Contribution}
 use Rattle.potential_sum.specs.Matrix.{block_total, stiffness_at}
 use Rattle.potential_sum.specs.Calls.Fixed.{AreAllFixed}
 use Rattle.potential_sum.specs.Calls.Stiffness.{AreSixteenSmall, HasNoBlocks, HaveMore, at_pair, between, block_at, blocks_in, four_rows, in_row, in_rows, inertia_table, sixteen, sixteen_of, stiffness_of, stiffness_of_one, sum_of_tables}
+use Rattle.potential_sum.proofs.Gradients.{flat_map_agree}
+use Rattle.potential_sum.proofs.VectorSums.{origin-sum_of, sum_of-assoc, sum_of-origin}
 
 -- ---- sums of blocks
-vector_right : (a : V3) → sum_of a origin ≡ a
-vector_right a = λ i. vector (each a.x i) (each a.y i) (each a.z i)
-  where
-    each : (a : ℤ) → a +ℤ pos 0 ≡ a
-    each a = omega (arith, ints)
-
-vector_left : (a : V3) → sum_of origin a ≡ a
-vector_left a = λ i. vector (each a.x i) (each a.y i) (each a.z i)
-  where
-    each : (a : ℤ) → pos 0 +ℤ a ≡ a
-    each a = omega (arith, ints)
-
-vector_regrouped : (a b c : V3) → sum_of (sum_of a b) c ≡ sum_of a (sum_of b c)
-vector_regrouped a b c = λ i. vector (each a.x b.x c.x i) (each a.y b.y c.y i) (each a.z b.z c.z i)
-  where
-    each : (a b c : ℤ) → (a +ℤ b) +ℤ c ≡ a +ℤ (b +ℤ c)
-    each a b c = omega (arith, ints)
-
 pub none_right : (a : M3) → sum_of_blocks a no_block ≡ a
-none_right a = λ i. columns (vector_right a.first i) (vector_right a.second i) (vector_right a.third i)
+none_right a = λ i. columns (sum_of-origin a.first i) (sum_of-origin a.second i) (sum_of-origin a.third i)
 
 pub none_left : (a : M3) → sum_of_blocks no_block a ≡ a
-none_left a = λ i. columns (vector_left a.first i) (vector_left a.second i) (vector_left a.third i)
+none_left a = λ i. columns (origin-sum_of a.first i) (origin-sum_of a.second i) (origin-sum_of a.third i)
 
 pub regrouped : (a b c : M3) → sum_of_blocks (sum_of_blocks a b) c ≡ sum_of_blocks a (sum_of_blocks b c)
 regrouped a b c = λ i. columns
-    (vector_regrouped a.first b.first c.first i)
-    (vector_regrouped a.second b.second c.second i)
-    (vector_regrouped a.third b.third c.third i)
+    (sum_of-assoc a.first b.first c.first i)
+    (sum_of-assoc a.second b.second c.second i)
+    (sum_of-assoc a.third b.third c.third i)
 
 pub block_total-append : (xs ys : List M3) → block_total (xs ++ ys) ≡ sum_of_blocks (block_total xs) (block_total ys)
 block_total-append [] ys = sym (none_left (block_total ys))
@@ -179,10 +160,6 @@ part_small part blocks e small = record { each = λ i j h k. subst (AreBelow 86)
 map_agree : {A : Type 0} (f g : ℕ → A) (xs : List ℕ) → All (λ x. f x ≡ g x) xs → map f xs ≡ map g xs
 map_agree f g [] h = refl
 map_agree f g (x ∷ xs) h = λ i. All-head (λ y. f y ≡ g y) x xs h i ∷ map_agree f g xs (All-tail (λ y. f y ≡ g y) x xs h) i
-
-flat_map_agree : {A : Type 0} (f g : ℕ → List A) (xs : List ℕ) → All (λ x. f x ≡ g x) xs → flat_map f xs ≡ flat_map g xs
-flat_map_agree f g [] h = refl
-flat_map_agree f g (x ∷ xs) h = λ i. All-head (λ y. f y ≡ g y) x xs h i ++ flat_map_agree f g xs (All-tail (λ y. f y ≡ g y) x xs h) i
 
 -- blocks that agree between four nodes
 pub between_agree : (nodes : List ℕ) (f g : (i j : ℕ) → M3) → ((i j : ℕ) → i < length nodes → j < length nodes → f i j ≡ g i j) → between nodes f ≡ between nodes g

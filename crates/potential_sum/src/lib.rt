@@ -3,7 +3,7 @@
 //!
 //! `terms`: the public calls. `inertia`, `bodies`, `barriers`, `friction`: what nodes, tetrahedra, pairs and
 //! contacts give; `contacts`: the contacts of a frame. `pulls`: the sums of the gradient. `matrix`, `blocks`: the
-//! sums of the matrix. `laws`: the matrix is symmetric.
+//! sums of the matrix; `fixed`: what it leaves out. `laws`: the matrix is symmetric.
 #![tactic(auto)]
 
 mod barriers;
