@@ -1,4 +1,4 @@
--- A scene is read in groups of keys.
+-- A scene is read in groups of its keys.
 use Rattle.std.proofs.Common.{◌≡◌, ◌∙◌, ◌++◌, pos, Result, Ok, Err, refl}
 use Rattle.std.specs.Prelude.{codes, unsigned_abs}
 use Rattle.dec_text.specs.declared.Snap.TheVariants.{Nearest}
