@@ -182,7 +182,7 @@ pub(crate) fn text_at(
 }
 
 // The vector of three items, where each is an integer.
-fn vector_of(x: &Value, y: &Value, z: &Value) -> Option<V3>
+fn vector_of_three(x: &Value, y: &Value, z: &Value) -> Option<V3>
     ensures { result ≡ vector_of_three (view x.now) (view y.now) (view z.now) }
 {
     Some(V3 {
@@ -199,7 +199,7 @@ fn three_integers(items: &[Value]) -> Option<V3>
     let [x, y, z] = items else {
         return None;
     };
-    vector_of(x, y, z)
+    vector_of_three(x, y, z)
 }
 
 // The vector, where each component lies in the key's range.
