@@ -29,7 +29,7 @@ use Rattle.scene_toml.specs.declared.scene.Scene.{Scene}
 use Rattle.scene_toml.specs.Gives.{Gives}
 use Rattle.scene_toml.specs.Calls.{bool_at, files_in, files_of, forces_in, forces_of, frames_in, frames_of, integer_at, integer_or_at, material_at, material_in, new_tag_at, optional_bool_at, optional_integer_at, optional_text_at, optional_vector_at, parts_at, snap_at, text_at, vector_at}
 use Rattle.scene_toml.specs.declared.parts.PartKeys.{PartKeys}
-use Rattle.scene_toml.specs.Parts.{are_tables, count_of, not_tables, part, part_in, parts_from, parts_of, with_base}
+use Rattle.scene_toml.specs.Parts.{are_tables, count_of, not_tables, part, part_in, part_of, parts_from, parts_of, with_base}
 use Rattle.scene_toml.specs.Keys.{Key, key}
 use Rattle.scene_toml.specs.Reading.{read_keys}
 use Rattle.scene_toml.specs.Readings.{file_keys, force_keys, frame_keys, material_of, no_scene}
@@ -162,18 +162,21 @@ part_in-holds earlier ms part e =
           (λ v u u-is. vector_of-holds section (key (codes "velocity") VELOCITIES) origin v u (at_rest _ _ (omega arith) (omega arith)) u-is) velocity-is;
     })))))))
 
+part_of-holds : (earlier : List PartKeys) (d : Data) (part : PartKeys) → part_of earlier d ≡ Ok part → IsPart part
+part_of-holds earlier (table ms) part e = part_in-holds earlier ms part e
+part_of-holds earlier _ part e = absurd cc
+
 -- parts in range, as many as tables
 parts_from-holds : (earlier : List PartKeys) (items : Items) (parts : List PartKeys) → All IsPart earlier → parts_from earlier items ≡ Ok parts → All IsPart parts × (length parts ≡ length earlier + count_of items)
 parts_from-holds earlier no_items parts h e =
     let same = ok_same _ parts e in
     (subst (All IsPart) same h, omega (arith, ap length same))
-parts_from-holds earlier (item (table ms) more) parts h e =
-    and_then-ok (part_in earlier ms) _ parts e
+parts_from-holds earlier (item d more) parts h e =
+    and_then-ok (part_of earlier d) _ parts e
     (λ part part-is e.
-    let one = All-cons IsPart part [] (part_in-holds earlier ms part part-is) (All-nil IsPart) in
+    let one = All-cons IsPart part [] (part_of-holds earlier d part part-is) (All-nil IsPart) in
     let (all, count) = parts_from-holds (earlier ++ part ∷ []) more parts (All-append IsPart earlier (part ∷ []) h one) e in
     (all, omega (arith, count, length-append earlier (part ∷ []))))
-parts_from-holds earlier (item _ more) parts h e = absurd cc
 
 if_chosen : (b : Bool) (step : Result (List PartKeys) SceneErr) (fault : SceneErr) (parts : List PartKeys) → (if b then step else Err fault) ≡ Ok parts → step ≡ Ok parts
 if_chosen true step fault parts e = e

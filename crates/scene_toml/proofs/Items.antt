@@ -7,7 +7,7 @@ use Rattle.toml.specs.declared.value.Value.{Value}
 use Rattle.scene_toml.specs.declared.keys.Section.TheVariants.{Top}
 use Rattle.scene_toml.specs.declared.parts.PartKeys.{PartKeys}
 use Rattle.scene_toml.specs.declared.refusal.SceneErr.{SceneErr}
-use Rattle.scene_toml.specs.Parts.{are_tables, count_of, part, part_in, parts_from, parts_of}
+use Rattle.scene_toml.specs.Parts.{are_tables, count_of, part, part_of, parts_from, parts_of}
 use Rattle.scene_toml.specs.Values.{and_then, in_range}
 
 items_view-drop : (vs : List Value) (i : ℕ) (v : Value) → i < length vs → items_view (drop i vs) ≡ item (view (get_or vs i v)) (items_view (drop (i + 1) vs))
@@ -17,7 +17,7 @@ pub count_of-items : (vs : List Value) → count_of (items_view vs) ≡ length v
 count_of-items [] = refl
 count_of-items (v ∷ vs) = omega (arith, count_of-items vs)
 
-is_table : (d : Data) (inside : Members) → Some inside ≡ as_table d → d ≡ table inside
+pub is_table : (d : Data) (inside : Members) → Some inside ≡ as_table d → d ≡ table inside
 is_table (table other) inside e = cc
 is_table _ inside e = absurd cc
 
@@ -26,11 +26,10 @@ is_array (array other) items e = cc
 is_array _ items e = absurd cc
 
 -- one item on
-pub next_part : (vs : List Value) (i : ℕ) (v : Value) (members : Members) (earlier : List PartKeys) → i < length vs → v ≡ get_or vs i v → Some members ≡ as_table (view v)
-    → parts_from earlier (items_view (drop i vs)) ≡ and_then (part_in earlier members) (λ part. parts_from (earlier ++ part ∷ []) (items_view (drop (i + 1) vs)))
-next_part vs i v members earlier l is e =
-    let rest = items_view (drop (i + 1) vs) in
-    ap (parts_from earlier) (items_view-drop vs i v l ∙ ap (λ w. item (view w) rest) (sym is) ∙ ap (λ d. item d rest) (is_table (view v) members e))
+pub next_part : (vs : List Value) (i : ℕ) (v : Value) (earlier : List PartKeys) → i < length vs → v ≡ get_or vs i v
+    → parts_from earlier (items_view (drop i vs)) ≡ and_then (part_of earlier (view v)) (λ part. parts_from (earlier ++ part ∷ []) (items_view (drop (i + 1) vs)))
+next_part vs i v earlier l is =
+    ap (parts_from earlier) (items_view-drop vs i v l ∙ ap (λ w. item (view w) (items_view (drop (i + 1) vs))) (sym is))
 
 -- an array of tables, not too many
 pub parts_of-array : (value : Option Data) (d : Data) (items : Items) (n : ℤ) → value ≡ Some d → Some items ≡ as_array d → true ≡ are_tables items

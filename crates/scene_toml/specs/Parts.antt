@@ -73,12 +73,15 @@ count_of (item d more) = 1 + count_of more
 abbrev pub not_tables : SceneErr
 not_tables = WrongType (printed sections.Top part.name)
 
--- the parts that tables give, after the earlier ones
+-- the part that an item of the array gives after the earlier ones
+abbrev pub part_of : (earlier : List PartKeys) → Data → Result PartKeys SceneErr
+part_of earlier (table members) = part_in earlier members
+part_of earlier _ = Err not_tables
+
+-- the parts that items give, after the earlier ones
 abbrev pub parts_from : (earlier : List PartKeys) → Items → Result (List PartKeys) SceneErr
 parts_from earlier no_items = Ok earlier
-parts_from earlier (item (table members) more) =
-    and_then (part_in earlier members) (λ part. parts_from (earlier ++ part ∷ []) more)
-parts_from earlier (item _ more) = Err not_tables
+parts_from earlier (item d more) = and_then (part_of earlier d) (λ part. parts_from (earlier ++ part ∷ []) more)
 
 -- the parts of a scene: none where the key is absent
 abbrev pub parts_of : Option Data → Result (List PartKeys) SceneErr

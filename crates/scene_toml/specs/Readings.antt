@@ -124,7 +124,7 @@ body_keys =
 
 -- the keys of a scene
 abbrev pub scene_keys : List (Reading Scene)
-scene_keys = file_keys ++ frame_keys ++ force_keys ++ body_keys
+scene_keys = file_keys ++ (frame_keys ++ (force_keys ++ body_keys))
 
 -- a scene of which nothing is read yet
 abbrev pub no_numbers : Numbers

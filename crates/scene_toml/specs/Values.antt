@@ -59,9 +59,14 @@ text_of section key (Some (string text)) = and_then (in_range section key (pos (
 text_of section key (Some _) = Err (WrongType (printed section key.name))
 text_of section key None = Err (Missing (printed section key.name))
 
+-- the vector of three integers
+abbrev pub vector_of_three : Data → Data → Data → Option V3
+vector_of_three (integer x) (integer y) (integer z) = Some (vector x y z)
+vector_of_three _ _ _ = None
+
 -- the three integers that are all of a list
 abbrev pub three_integers : Items → Option V3
-three_integers (item (integer x) (item (integer y) (item (integer z) no_items))) = Some (vector x y z)
+three_integers (item x (item y (item z no_items))) = vector_of_three x y z
 three_integers _ = None
 
 -- a vector whose components are in the key's range

@@ -2,6 +2,7 @@
 //! list of readings in specs/Readings.antt.
 ghost use Rattle.std.specs.Prelude.{◌≡◌, ◌&&◌, ◌++◌, IfOk, int_le, bytes_eq, codes, decimal, string_bytes};
 ghost use Rattle.std.specs.List.{list_any};
+ghost use Rattle.scene_toml.specs.declared.keys.Section.TheVariants.{Material, Top};
 ghost use Rattle.scene_toml.specs.Keys.{prefix, printed};
 ghost use Rattle.scene_toml.specs.Readings.{is_known};
 
@@ -197,13 +198,25 @@ fn is_among(keys: &[Key], name: &str) -> bool
     keys.iter().any(|key| key.0 == name)
 }
 
+fn is_top_key(name: &str) -> bool
+    ensures { result ≡ is_known Top name.now }
+{
+    is_among(&TOP_KEYS, name)
+}
+
+fn is_material_key(name: &str) -> bool
+    ensures { result ≡ is_known Material name.now }
+{
+    is_among(&MATERIAL_KEYS, name)
+}
+
 /// Whether a section may have a key of this name.
 pub(crate) fn is_known(section: Section, name: &str) -> bool
     ensures { result ≡ is_known section name.now }
 {
     match section {
-        Section::Top => is_among(&TOP_KEYS, name),
-        Section::Material => is_among(&MATERIAL_KEYS, name),
+        Section::Top => is_top_key(name),
+        Section::Material => is_material_key(name),
         Section::Part(_) => is_among(&PART_KEYS, name),
     }
 }

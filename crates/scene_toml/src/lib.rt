@@ -1,7 +1,8 @@
 //! Scenes as TOML: `read_scene` gives the scene that a text means, or the first fault in it.
 //!
-//! `scene`: the call. `keys`: the keys with their ranges, `tables`: look-ups and unknown keys, `values`, `texts`:
-//! what stands at a key. `parts`: the parts. `refusal`: why there is no scene. `laws`: what a text is worth.
+//! `scene`: the call. `groups`: keys that are read together. `keys`: the keys with their ranges, `tables`: look-ups and
+//! unknown keys, `values`, `texts`: what stands at a key. `parts`: the parts. `refusal`: why there is no scene. `laws`:
+//! what a text is worth.
 #![tactic(auto)]
 
 mod groups;

@@ -2,12 +2,12 @@
 ghost use Rattle.std.specs.Prelude.{◌≡◌, List, [], ◌∷◌, ◌++◌, IfOk, OnOk};
 ghost use Rattle.std.specs.List.{list_any};
 ghost use Rattle.std.specs.Ordering.{int_eq};
-ghost use Rattle.toml.specs.View.{items_view, table_view};
+ghost use Rattle.toml.specs.View.{items_view, table_view, view};
 ghost use Rattle.whole_laws.specs.Ranges.{IsFrom};
 ghost use Rattle.scene_toml.specs.declared.keys.TheConstants.{TAGS};
 ghost use Rattle.scene_toml.specs.Calls.{new_tag_at, parts_at};
 ghost use Rattle.scene_toml.specs.Gives.{Gives};
-ghost use Rattle.scene_toml.specs.Parts.{are_tables, part_in, parts_from};
+ghost use Rattle.scene_toml.specs.Parts.{are_tables, part_in, part_of, parts_from};
 
 use crate::keys::{DENSITY, FIXED, LAMBDA, MU, PART, Section, TAG, VELOCITY};
 use crate::refusal::{ReadSceneErr, SceneErr};
@@ -87,16 +87,13 @@ fn are_tables(items: &[Value]) -> bool
     true
 }
 
-// The parts that tables give.
+// The parts that items give.
 fn parts_from(alloc: Global, items: &[Value]) -> Result<Parts, ReadSceneErr>
     ensures { Gives result (parts_from [] (items_view items.now)) }
 {
     let mut list = Vec::new(alloc);
     for item in items {
-        let Some(table) = item.as_table() else {
-            return Err(wrong_type(alloc, Section::Top, &PART)?);
-        };
-        let part = part_in(alloc, list.as_slice(), table)?;
+        let part = part_of(alloc, list.as_slice(), item)?;
         add_part(&mut list, part)?;
     }
     Ok(Parts { list })
@@ -107,6 +104,16 @@ fn add_part(parts: &mut Vec<PartKeys>, part: PartKeys) -> Result<(), AllocError>
 {
     parts.push(part)?;
     Ok(())
+}
+
+// The part that an item gives after the earlier ones.
+fn part_of(alloc: Global, earlier: &[PartKeys], item: &Value) -> Result<PartKeys, ReadSceneErr>
+    ensures { Gives result (part_of earlier.now (view item.now)) }
+{
+    match item.as_table() {
+        Some(table) => part_in(alloc, earlier, table),
+        None => Err(wrong_type(alloc, Section::Top, &PART)?),
+    }
 }
 
 // The part that a table gives after the earlier ones.

@@ -1,13 +1,13 @@
 //! The value at a key, or why it is refused.
 ghost use Rattle.std.specs.Prelude.{◌≡◌, IfOk};
-ghost use Rattle.toml.specs.View.{items_view, table_view};
+ghost use Rattle.toml.specs.View.{items_view, table_view, view};
 ghost use Rattle.whole_laws.specs.Ranges.{IsFrom};
 ghost use Rattle.scene_toml.specs.declared.refusal.ReadSceneErr.TheVariants.{Scene};
 ghost use Rattle.scene_toml.specs.declared.refusal.SceneErr.TheVariants.{Missing, OutOfRange, WrongType};
 ghost use Rattle.scene_toml.specs.Gives.{Gives};
 ghost use Rattle.scene_toml.specs.Keys.{printed};
 ghost use Rattle.scene_toml.specs.Calls.{bool_at, integer_at, integer_or_at, optional_bool_at, optional_integer_at, optional_text_at, optional_vector_at, snap_at, text_at, vector_at};
-ghost use Rattle.scene_toml.specs.Values.{in_range, components_of, snap_named, three_integers};
+ghost use Rattle.scene_toml.specs.Values.{in_range, components_of, snap_named, three_integers, vector_of_three};
 
 use crate::keys::{Key, Section};
 use crate::refusal::{ReadSceneErr, SceneErr};
@@ -181,6 +181,17 @@ pub(crate) fn text_at(
     Ok(NameText::of_text(String::from_str(alloc, text)?))
 }
 
+// The vector of three items, where each is an integer.
+fn vector_of_three(x: &Value, y: &Value, z: &Value) -> Option<V3>
+    ensures { result ≡ vector_of_three (view x.now) (view y.now) (view z.now) }
+{
+    Some(V3 {
+        x: x.as_integer()?,
+        y: y.as_integer()?,
+        z: z.as_integer()?,
+    })
+}
+
 // The vector of a list that has just three items, each an integer.
 fn three_integers(items: &[Value]) -> Option<V3>
     ensures { result ≡ three_integers (items_view items.now) }
@@ -188,11 +199,7 @@ fn three_integers(items: &[Value]) -> Option<V3>
     let [x, y, z] = items else {
         return None;
     };
-    Some(V3 {
-        x: x.as_integer()?,
-        y: y.as_integer()?,
-        z: z.as_integer()?,
-    })
+    vector_of_three(x, y, z)
 }
 
 // The vector, where each component lies in the key's range.
