@@ -2,6 +2,8 @@ pub mod CornerMoves
 pub mod Halvings
 pub mod Rooms
 pub mod Searches
+pub mod SeparatedEnds
 pub mod Separations
+pub mod ShortProducts
 pub mod SweptBoxes
 pub mod Tallies

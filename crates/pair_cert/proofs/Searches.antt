@@ -20,9 +20,13 @@ served xs ys j n moves e p = (served_plane xs ys j n).1 (subst (λ ms. HasPlane 
 pub not_served : (xs ys : List Move) (j n : ℕ) (moves : List Move) (r : Bool) → IsTrue r ↔ HasPlane (all_ends moves) → r ≡ false → moves ≡ moves_within xs ys j n → IsServed xs ys j n → ⊥
 not_served xs ys j n moves r test failed e s = differ (sym failed ∙ test.1 (subst (λ ms. HasPlane (all_ends ms)) (sym e) ((served_plane xs ys j n).0 s)))
 
+-- a vector that serves the whole step
+pub served_throughout : (xs ys : List Move) (depth : ℕ) → IsServed xs ys 0 1 → PairCertificate depth xs ys
+served_throughout xs ys depth s = each_from_halves (IsServed xs ys) (served_inherited xs ys) depth (whole (IsServed xs ys) depth 0 1 s)
+
 -- a plane of the ends of the whole step
 pub whole_served : (xs ys : List Move) (depth : ℕ) (moves : List Move) → moves ≡ moves_within xs ys 0 1 → HasPlane (all_ends moves) → PairCertificate depth xs ys
-whole_served xs ys depth moves e p = each_from_halves (IsServed xs ys) (served_inherited xs ys) depth (whole (IsServed xs ys) depth 0 1 (served xs ys 0 1 moves e p))
+whole_served xs ys depth moves e p = served_throughout xs ys depth (served xs ys 0 1 moves e p)
 
 -- ---- swept boxes that don't touch
 pub untouched : (xs ys : List Move) (r : Bool) → IsTrue r ↔ SweptBoxesTouch xs ys → r ≡ false → ¬ SweptBoxesTouch xs ys

@@ -10,12 +10,12 @@ use Rattle.safe_motion.specs.SweptBoxes.{both_ends}
 use Rattle.pair_cert.specs.Parts.{move_between}
 
 -- the places of moves that are put together from two lists
-starts : (xs ys : List V3) → length xs ≡ length ys → start_places (map move_between (zip xs ys)) ≡ xs
+pub starts : (xs ys : List V3) → length xs ≡ length ys → start_places (map move_between (zip xs ys)) ≡ xs
 starts [] ys e = refl
 starts (x ∷ xs) [] e = absurd (omega arith)
 starts (x ∷ xs) (y ∷ ys) e = λ i. x ∷ starts xs ys (omega arith) i
 
-ends : (xs ys : List V3) → length xs ≡ length ys → end_places (map move_between (zip xs ys)) ≡ ys
+pub ends : (xs ys : List V3) → length xs ≡ length ys → end_places (map move_between (zip xs ys)) ≡ ys
 ends [] [] e = refl
 ends [] (y ∷ ys) e = absurd (omega arith)
 ends (x ∷ xs) [] e = absurd (omega arith)

@@ -13,9 +13,11 @@ ghost use Rattle.space3.specs.Spots.{StaysInTheBox};
 ghost use Rattle.pair_cert.specs.Parts.{moves_of};
 ghost use Rattle.pair_cert.specs.Tallies.{RisesAtMost, intervals_within};
 
+use crate::centres::do_centres_separate;
+use crate::guesses::centre_difference;
 use crate::halves::half_moves;
 use crate::moves::{Half, RelativeMoves};
-use crate::planes::{has_plane_throughout, is_plane_guessed};
+use crate::planes::{has_plane_throughout, serves_some_other};
 use crate::relative_moves::relative_moves;
 use crate::swept_boxes::do_swept_boxes_touch;
 use plane_cut::{FIRST_LIMIT, Tally};
@@ -38,8 +40,11 @@ pub fn certify_pair(a: &Part, b: &Part, tally: &mut Tally) -> bool
 {
     // Once it is read, the count is known to be one of its type.
     let _count = tally.n;
+    if do_centres_separate(a, b) {
+        return true;
+    }
     let moves = relative_moves(a, b);
-    if is_plane_guessed(&moves) {
+    if serves_some_other(&moves, centre_difference(&moves)) {
         return true;
     }
     if !do_swept_boxes_touch(a, b) {

@@ -10,9 +10,10 @@ ghost use Rattle.pair_cert.specs.Tallies.{RisesAtMost};
 
 use crate::guesses::{centre_difference, edge_count, normal, normal_count, perpendicular};
 use crate::moves::RelativeMoves;
+use crate::short_products::short_dot;
 use plane_cut::{ROW_LIMIT, Tally, has_plane};
 use safe_motion::Move;
-use space3::{V3, dot};
+use space3::V3;
 
 // Whether some whole vector has a positive product with each move at both ends. A few vectors that are cheap to guess
 // are tried before the exact decision, which alone is counted.
@@ -30,7 +31,7 @@ pub fn has_plane_throughout(moves: &RelativeMoves, tally: &mut Tally) -> bool
 }
 
 // Whether one of the guessed vectors serves. No says nothing.
-pub fn is_plane_guessed(moves: &RelativeMoves) -> bool
+fn is_plane_guessed(moves: &RelativeMoves) -> bool
     requires { All IsShort (moves_in moves.now) }
     ensures { IsTrue result → HasPlane (all_ends (moves_in moves.now)) }
 {
@@ -38,6 +39,14 @@ pub fn is_plane_guessed(moves: &RelativeMoves) -> bool
     if serves(centres, moves) {
         return true;
     }
+    serves_some_other(moves, centres)
+}
+
+// Whether one of the guesses behind the first serves.
+pub fn serves_some_other(moves: &RelativeMoves, centres: V3) -> bool
+    requires { All IsShort (moves_in moves.now) }
+    ensures { IsTrue result → HasPlane (all_ends (moves_in moves.now)) }
+{
     serves_some_normal(moves, centres) || serves_some_perpendicular(moves, centres)
 }
 
@@ -95,7 +104,7 @@ fn is_past(n: V3, a: V3) -> bool
     requires short { Within COMPONENT_LIMIT a }
     ensures { IsTrue result ↔ pos 0 <ℤ dot_product n a }
 {
-    dot(n, a) > 0
+    short_dot(n, a) > 0
 }
 
 // The ends of the moves as rows of a plane decision.

@@ -9,24 +9,36 @@ use Rattle.pair_cert.specs.Parts.{moves_of}
 use Rattle.pair_cert.proofs.Halvings.{moves-whole}
 use Rattle.pair_cert.specs.Calls.RelativeMoves.{moves_in}
 use Rattle.pair_cert.proofs.Rooms.{short_now}
-use Rattle.pair_cert.proofs.Searches.{untouched, whole_served}
+use Rattle.pair_cert.proofs.Searches.{served_throughout, untouched, whole_served}
 use Rattle.pair_cert.proofs.Tallies.{stays}
 use Rattle.pair_cert.proofs.certificate.certify_pair.Goals as goal
 
-pub is_plane_guessed-requires : goal.is_plane_guessed-requires
-is_plane_guessed-requires c = short_now DEPTH (moves_in c.relative_moves-moves.result) c.relative_moves-moves.ensures.room
+pub serves_some_other-requires : goal.serves_some_other-requires
+serves_some_other-requires c = short_now DEPTH (moves_in c.relative_moves-moves.result) c.relative_moves-moves.ensures.room
 
-pub returns-then-is_plane_guessed-clause-certificate : goal.returns-then-is_plane_guessed-clause-certificate
-returns-then-is_plane_guessed-clause-certificate c =
+pub returns-then-do_centres_separate-clause-certificate : goal.returns-then-do_centres_separate-clause-certificate
+returns-then-do_centres_separate-clause-certificate c =
     let xs = moves_of c.args.a.now in
     let ys = moves_of c.args.b.now in
-    (λ t. whole_served xs ys DEPTH (moves_in c.relative_moves-moves.result) (c.relative_moves-moves.ensures.moves ∙ moves-whole xs ys) (c.is_plane_guessed.ensures c.if-is_plane_guessed.true), λ h. refl)
+    (λ t. served_throughout xs ys DEPTH (c.do_centres_separate.ensures c.if-do_centres_separate.true), λ h. refl)
 
-pub returns-then-is_plane_guessed-clause-apart : goal.returns-then-is_plane_guessed-clause-apart
-returns-then-is_plane_guessed-clause-apart c = λ h. certified_apart DEPTH (moves_of c.args.a.now) (moves_of c.args.b.now) ((returns-then-is_plane_guessed-clause-certificate c).0 h)
+pub returns-then-do_centres_separate-clause-apart : goal.returns-then-do_centres_separate-clause-apart
+returns-then-do_centres_separate-clause-apart c = λ h. certified_apart DEPTH (moves_of c.args.a.now) (moves_of c.args.b.now) ((returns-then-do_centres_separate-clause-certificate c).0 h)
 
-pub returns-then-is_plane_guessed-clause-tally : goal.returns-then-is_plane_guessed-clause-tally
-returns-then-is_plane_guessed-clause-tally c = stays _ c.args.tally.now.n (omega arith)
+pub returns-then-do_centres_separate-clause-tally : goal.returns-then-do_centres_separate-clause-tally
+returns-then-do_centres_separate-clause-tally c = stays _ c.args.tally.now.n (omega arith)
+
+pub returns-then-serves_some_other-clause-certificate : goal.returns-then-serves_some_other-clause-certificate
+returns-then-serves_some_other-clause-certificate c =
+    let xs = moves_of c.args.a.now in
+    let ys = moves_of c.args.b.now in
+    (λ t. whole_served xs ys DEPTH (moves_in c.relative_moves-moves.result) (c.relative_moves-moves.ensures.moves ∙ moves-whole xs ys) (c.serves_some_other.ensures c.if-serves_some_other.true), λ h. refl)
+
+pub returns-then-serves_some_other-clause-apart : goal.returns-then-serves_some_other-clause-apart
+returns-then-serves_some_other-clause-apart c = λ h. certified_apart DEPTH (moves_of c.args.a.now) (moves_of c.args.b.now) ((returns-then-serves_some_other-clause-certificate c).0 h)
+
+pub returns-then-serves_some_other-clause-tally : goal.returns-then-serves_some_other-clause-tally
+returns-then-serves_some_other-clause-tally c = stays _ c.args.tally.now.n (omega arith)
 
 pub returns-then-not-do_swept_boxes_touch-clause-certificate : goal.returns-then-not-do_swept_boxes_touch-clause-certificate
 returns-then-not-do_swept_boxes_touch-clause-certificate c =
