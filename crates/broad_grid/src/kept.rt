@@ -103,6 +103,14 @@ impl Kept {
             close_pairs(alloc, surface, x, self.reach)
         }
     }
+
+    /// Whether no node at `x` is farther than the margin from its kept place along an axis, so that the close pairs are
+    /// found among the kept ones.
+    pub fn have_stayed(&self, x: &Places) -> bool
+        ensures { result ≡ have_stayed self.now.margin self.now.places x.now }
+    {
+        have_stayed(self.margin, &self.places, x)
+    }
 }
 
 // Whether no place differs from the kept one by more than the margin along an axis.

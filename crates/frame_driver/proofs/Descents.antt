@@ -64,7 +64,13 @@ module _ (s : Setup) (tol : ℤ) (terms : FrameTerms) (keep : Bool) (now : List 
     spends budget step come next =
         record { taken = budget; come = come; few = omega arith; ends = (refl, next.goes_on.restless, (step, next.goes_on.step_at), refl) }
 
--- at the tolerance that was passed on
-pub descends_at : (s : Setup) (seen tol : ℤ) (budget : ℕ) (terms : FrameTerms) (keep : Bool) (now x : List V3) (notes : List Step) (end : FrameEnd) → seen ≡ tol
-    → Descends s seen budget terms keep now x notes end → Descends s tol budget terms keep now x notes end
-descends_at s seen tol budget terms keep now x notes end e h = subst (λ (z : ℤ). Descends s z budget terms keep now x notes end) e h
+-- by terms of the same frame
+pub HasCome-by : (s : Setup) (tol : ℤ) (terms others : FrameTerms) (keep : Bool) (now x : List V3) (notes : List Step) (taken : ℕ) → terms ≡ others
+    → HasCome s tol terms keep now x notes taken → HasCome s tol others keep now x notes taken
+HasCome-by s tol terms others keep now x notes taken e h = subst (λ (frame : FrameTerms). HasCome s tol frame keep now x notes taken) e h
+
+-- at the tolerance that was passed on, by terms of the same frame
+pub descends_at : (s : Setup) (seen tol : ℤ) (budget : ℕ) (terms start : FrameTerms) (keep : Bool) (now x : List V3) (notes : List Step) (end : FrameEnd) → seen ≡ tol → terms ≡ start
+    → Descends s seen budget terms keep now x notes end → Descends s tol budget start keep now x notes end
+descends_at s seen tol budget terms start keep now x notes end e f h =
+    subst (λ (frame : FrameTerms). Descends s tol budget frame keep now x notes end) f (subst (λ (z : ℤ). Descends s z budget terms keep now x notes end) e h)

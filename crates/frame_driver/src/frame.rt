@@ -25,16 +25,16 @@ enum Next {
 pub(crate) fn descend(
     alloc: Global,
     setup: &Setup,
-    terms: &Terms,
+    terms: &mut Terms,
     tol: i64,
     budget: u32,
     keep: bool,
     now: &Places,
     work: &mut Work,
 ) -> Result<(Places, Vec<Step>, FrameEnd), AllocError>
-    requires ready { AreReady setup.now terms.now now.now }
+    requires ready { AreReady setup.now terms.old now.now }
     requires room { length work.old ≡ length setup.now.mesh.numbers }
-    ensures descent { IfOk result (λ done. Descends setup.now tol budget terms.now.frame keep
+    ensures descent { IfOk result (λ done. Descends setup.now tol budget terms.old.frame keep
         now.now done.0 done.1.items done.2) }
     ensures room { length work.new ≡ length work.old }
 {
@@ -49,6 +49,7 @@ pub(crate) fn descend(
             Next::Step(step) => {
                 upper = step.lower;
                 x = places_after(alloc, step, keep, &mut notes)?;
+                terms.follow(alloc, setup, &x)?;
             }
         }
     }

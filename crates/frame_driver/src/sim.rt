@@ -77,11 +77,11 @@ impl Sim {
         ensures frame { IfOk result (λ end. Advances end self.old self.new) }
         ensures unchanged { OnErr result (self.new ≡ self.old) }
     {
-        let terms = Terms::open(alloc, &self.setup, &self.places, &self.before)?;
+        let mut terms = Terms::open(alloc, &self.setup, &self.places, &self.before)?;
         let (places, notes, end) = descend(
             alloc,
             &self.setup,
-            &terms,
+            &mut terms,
             self.tol,
             self.budget,
             self.keep,

@@ -103,6 +103,26 @@ impl Terms {
         self.contacts.as_slice()
     }
 
+    /// Goes on where the nodes stand at `x`, as for [`Terms::energy`]: where one has moved by more than dhat from its
+    /// kept place, the near pairs at `x` are kept from now on. Nothing else changes.
+    pub fn follow(
+        &mut self,
+        alloc: Global,
+        setup: &Setup,
+        x: &Places,
+    ) -> Result<(), AllocError>
+        requires built { IsSetup setup.now }
+        requires stand { StandFor setup.now self.old }
+        requires pose { IsUpright setup.now x.now }
+        ensures frame { self.new.frame ≡ self.old.frame }
+        ensures stand { StandFor setup.now self.new }
+    {
+        if !self.kept.have_stayed(x) {
+            self.kept = keep_near_pairs(alloc, setup, x)?;
+        }
+        Ok(())
+    }
+
     /// The potential where the nodes stand at `x`: one place per node, with positive volumes and no edge component above
     /// 65536.
     pub fn energy(&self, alloc: Global, setup: &Setup, x: &Places) -> Result<i128, AllocError>
