@@ -16,11 +16,10 @@ use Rattle.boundary.specs.declared.pairs.PairKind.TheVariants.{VE, VT, EE, ET}
 use Rattle.boundary.specs.Pairs.{all_pairs, counts, first_parts, kinds, pair_of, pairs_of_kind, second_parts}
 use Rattle.boundary.specs.Surface.{SurfaceLists}
 use Rattle.box_grid.specs.Near.{box_at, near_positions}
-use Rattle.broad_grid.specs.declared.boxes.PartBoxes.{PartBoxes}
 use Rattle.broad_grid.specs.declared.near.FirstPart.{FirstPart}
 use Rattle.broad_grid.specs.NearPairs.{are_boxes_within, close_pairs_of, is_close}
 use Rattle.broad_grid.specs.PartBoxes.{part_box, swept_box}
-use Rattle.broad_grid.specs.Calls.Boxes.{HasBoxes, first_boxes, second_boxes}
+use Rattle.broad_grid.specs.Calls.Boxes.{BoxesOfParts, HasBoxes, first_boxes, second_boxes}
 use Rattle.broad_grid.specs.Calls.Rows.{first_part, near_row, near_rows, near_rows_of_kinds}
 use Rattle.broad_grid.specs.Calls.Walk.{near_pairs_of}
 use Rattle.broad_grid.proofs.BoxesInTheBox.{around_itself}
@@ -93,26 +92,26 @@ rows_of_boxes reach s x0 x1 kind firsts seconds e f =
     (λ i. flat_map (λ a. near_that_count reach s (first_part kind firsts a) seconds i) (range_with_len 0 (length firsts)))
     ∙ (λ i. flat_map (λ a. map (pair_of kind a) (filter (λ b. are_within reach (first a i) (second b i) && counts s (pair_of kind a b)) (range_with_len 0 (n i)))) (range_with_len 0 (m i)))
 
-vertices_first : (s : SurfaceLists) (x0 x1 : List V3) (boxes : PartBoxes) → HasBoxes s x0 x1 boxes → boxes.vertices.items ≡ map (swept_box x0 x1) (map (λ vertex. vertex ∷ []) s.vertices)
+vertices_first : (s : SurfaceLists) (x0 x1 : List V3) (boxes : BoxesOfParts) → HasBoxes s x0 x1 boxes → boxes.vertices ≡ map (swept_box x0 x1) (map (λ vertex. vertex ∷ []) s.vertices)
 vertices_first s x0 x1 boxes h = h.vertices ∙ composed s.vertices
   where
     composed : (vs : List ℕ) → map (λ vertex. swept_box x0 x1 (vertex ∷ [])) vs ≡ map (swept_box x0 x1) (map (λ vertex. vertex ∷ []) vs)
     composed [] = refl
     composed (v ∷ vs) = ap (λ (l : List BoundingBox). swept_box x0 x1 (v ∷ []) ∷ l) (composed vs)
 
-firsts_are : (s : SurfaceLists) (x0 x1 : List V3) (boxes : PartBoxes) → HasBoxes s x0 x1 boxes → (kind : PairKind) → first_boxes boxes kind ≡ map (swept_box x0 x1) (first_parts s kind)
+pub firsts_are : (s : SurfaceLists) (x0 x1 : List V3) (boxes : BoxesOfParts) → HasBoxes s x0 x1 boxes → (kind : PairKind) → first_boxes boxes kind ≡ map (swept_box x0 x1) (first_parts s kind)
 firsts_are s x0 x1 boxes h VE = vertices_first s x0 x1 boxes h
 firsts_are s x0 x1 boxes h VT = vertices_first s x0 x1 boxes h
 firsts_are s x0 x1 boxes h EE = h.edges
 firsts_are s x0 x1 boxes h ET = h.edges
 
-seconds_are : (s : SurfaceLists) (x0 x1 : List V3) (boxes : PartBoxes) → HasBoxes s x0 x1 boxes → (kind : PairKind) → second_boxes boxes kind ≡ map (swept_box x0 x1) (second_parts s kind)
+pub seconds_are : (s : SurfaceLists) (x0 x1 : List V3) (boxes : BoxesOfParts) → HasBoxes s x0 x1 boxes → (kind : PairKind) → second_boxes boxes kind ≡ map (swept_box x0 x1) (second_parts s kind)
 seconds_are s x0 x1 boxes h VE = h.edges
 seconds_are s x0 x1 boxes h VT = h.triangles
 seconds_are s x0 x1 boxes h EE = h.edges
 seconds_are s x0 x1 boxes h ET = h.triangles
 
-pub rows_are_near_pairs : (reach : ℕ) (s : SurfaceLists) (x0 x1 : List V3) (boxes : PartBoxes) (ks : List PairKind) → HasBoxes s x0 x1 boxes → near_rows_of_kinds reach s boxes ks ≡ near_pairs_of reach s x0 x1 ks
+pub rows_are_near_pairs : (reach : ℕ) (s : SurfaceLists) (x0 x1 : List V3) (boxes : BoxesOfParts) (ks : List PairKind) → HasBoxes s x0 x1 boxes → near_rows_of_kinds reach s boxes ks ≡ near_pairs_of reach s x0 x1 ks
 rows_are_near_pairs reach s x0 x1 boxes ks h =
     let near = are_boxes_within reach s x0 x1 in
     (λ i. flat_map (λ kind. rows_of_boxes reach s x0 x1 kind (first_boxes boxes kind) (second_boxes boxes kind) (firsts_are s x0 x1 boxes h kind) (seconds_are s x0 x1 boxes h kind) i) ks)

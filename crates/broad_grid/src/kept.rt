@@ -1,14 +1,12 @@
 //! Near pairs that are kept, so that those that are close later are found among them.
 ghost use Rattle.std.specs.Prelude.{◌≡◌, ◌+◌, ◌*◌, ◌-ℤ◌, ◌≤◌, IfOk, IsTrue, All, false, filter, length, nat_le, unsigned_abs};
-ghost use Rattle.space3.specs.Boxes.{are_within};
 ghost use Rattle.space3.specs.Mesh.{HasNodes};
 ghost use Rattle.boundary.specs.Pairs.{IsPair};
 ghost use Rattle.broad_grid.specs.Kept.{IsWhole, differ_by_at_most, has_stayed, have_stayed};
 ghost use Rattle.broad_grid.specs.NearPairs.{close_pairs_of, is_close};
-ghost use Rattle.broad_grid.specs.PartBoxes.{part_box};
-ghost use Rattle.broad_grid.specs.Calls.Boxes.{IsPlaced};
+ghost use Rattle.broad_grid.specs.Calls.Boxes.{HasBoth, has_close_boxes};
 
-use crate::boxes::part_box;
+use crate::boxes::{BoxLists, box_lists};
 use crate::list::PairList;
 use crate::near::append_where;
 use crate::pairs::close_pairs;
@@ -16,7 +14,6 @@ use boundary::{Pair, PairKind, Surface};
 use space3::{Places, V3, are_within};
 use std::alloc::{AllocError, Global};
 use std::marker::Model;
-use std::slice::from_ref;
 
 /// The most that a reach or a margin may be, in grid units: 2^10. So a reach and twice a margin are less than the
 /// greatest gap that `box_grid` takes.
@@ -141,39 +138,37 @@ fn close_among(
     requires pairs { All (IsPair surface.now) pairs.now }
     ensures { IfOk result (λ close. close ≡ filter (is_close reach surface.now x.now) pairs.now) }
 {
+    let boxes = box_lists(alloc, surface, x, x)?;
+    close_by_boxes(alloc, &boxes, reach, pairs)
+}
+
+// Those of the pairs that are close by these boxes.
+fn close_by_boxes(
+    alloc: Global,
+    boxes: &BoxLists,
+    reach: u32,
+    pairs: &[Pair],
+) -> Result<PairList, AllocError>
+    requires { All (HasBoth boxes.now) pairs.now }
+    ensures { IfOk result (λ close. close ≡ filter (has_close_boxes reach boxes.now) pairs.now) }
+{
     let mut close = Vec::new(alloc);
     for pair in pairs {
-        append_where(is_close(surface, x, reach, *pair), *pair, &mut close)?;
+        append_where(has_close_boxes(boxes, reach, *pair), *pair, &mut close)?;
     }
     Ok(PairList::of_vec(close))
 }
 
 // Whether a pair has a distance of its own, and the boxes of its parts are within the reach.
-fn is_close(surface: &Surface, x: &Places, reach: u32, pair: Pair) -> bool
-    requires placed { HasNodes x.now surface.now.vertices }
-    requires pair { IsPair surface.now pair }
-    ensures { result ≡ is_close reach surface.now x.now pair }
+fn has_close_boxes(boxes: &BoxLists, reach: u32, pair: Pair) -> bool
+    requires { HasBoth boxes.now pair }
+    ensures { result ≡ has_close_boxes reach boxes.now pair }
 {
     let a = pair.a as usize;
     let b = pair.b as usize;
     match pair.kind {
-        PairKind::VT => {
-            let vertex = from_ref(&surface.vertices()[a]);
-            are_parts_within(x, reach, vertex, &surface.triangles()[b])
-        }
-        PairKind::EE => {
-            let edges = surface.edges();
-            are_parts_within(x, reach, &edges[a], &edges[b])
-        }
+        PairKind::VT => are_within(reach, &boxes.vertices[a], &boxes.triangles[b]),
+        PairKind::EE => are_within(reach, &boxes.edges[a], &boxes.edges[b]),
         PairKind::VE | PairKind::ET => false,
     }
-}
-
-// Whether the boxes of two parts, by their nodes, are within the reach.
-fn are_parts_within(x: &Places, reach: u32, left: &[u32], right: &[u32]) -> bool
-    requires left { IsPlaced x.now x.now left.now }
-    requires right { IsPlaced x.now x.now right.now }
-    ensures { result ≡ are_within reach (part_box x.now left.now) (part_box x.now right.now) }
-{
-    are_within(reach, &part_box(x, left), &part_box(x, right))
 }

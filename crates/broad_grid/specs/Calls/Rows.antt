@@ -7,9 +7,8 @@ use Rattle.boundary.specs.declared.pairs.PairKind.{PairKind}
 use Rattle.boundary.specs.Pairs.{counts, first_parts, pair_of, second_parts}
 use Rattle.boundary.specs.Surface.{SurfaceLists}
 use Rattle.box_grid.specs.Near.{LiesInTheBox, box_at, near_positions}
-use Rattle.broad_grid.specs.declared.boxes.PartBoxes.{PartBoxes}
 use Rattle.broad_grid.specs.declared.near.FirstPart.{FirstPart}
-use Rattle.broad_grid.specs.Calls.Boxes.{first_boxes, second_boxes}
+use Rattle.broad_grid.specs.Calls.Boxes.{BoxesOfParts, first_boxes, second_boxes}
 
 -- a first part of its kind, with a box in the box of places
 pub record IsFirst (s : SurfaceLists) (first : FirstPart) : Type 0 where
@@ -23,7 +22,7 @@ pub record AreFirst (s : SurfaceLists) (kind : PairKind) (firsts : List Bounding
   pub in_box : All LiesInTheBox firsts
 
 -- one box for each part of each kind
-pub record HasAsMany (s : SurfaceLists) (boxes : PartBoxes) : Type 0 where
+pub record HasAsMany (s : SurfaceLists) (boxes : BoxesOfParts) : Type 0 where
   pub firsts : (kind : PairKind) → AreFirst s kind (first_boxes boxes kind)
   pub seconds : (kind : PairKind) → length (second_boxes boxes kind) ≡ length (second_parts s kind)
 
@@ -46,6 +45,6 @@ near_rows reach s kind firsts seconds =
     flat_map (λ a. near_row reach s (first_part kind firsts a) seconds) (range_with_len 0 (length firsts))
 
 -- the near pairs of some kinds
-abbrev pub near_rows_of_kinds : ℕ → SurfaceLists → PartBoxes → List PairKind → List Pair
+abbrev pub near_rows_of_kinds : ℕ → SurfaceLists → BoxesOfParts → List PairKind → List Pair
 near_rows_of_kinds reach s boxes kinds =
     flat_map (λ kind. near_rows reach s kind (first_boxes boxes kind) (second_boxes boxes kind)) kinds
