@@ -1,7 +1,12 @@
 //! Near pairs that are kept, so that those that are close later are found among them.
-ghost use Rattle.std.specs.Prelude.{◌≡◌, ◌+◌, ◌*◌, ◌-ℤ◌, ◌≤◌, IfOk, IsTrue, All, false, filter, length, nat_le, unsigned_abs};
+ghost use Rattle.std.specs.Prelude.{◌≡◌, ◌+◌, ◌*◌, ◌-ℤ◌, ◌≤◌, ◌&&◌, IfOk, IsTrue, All, false, filter, int_le, length, nat_le, pos, unsigned_abs};
+ghost use Rattle.space3.specs.declared.places.TheConstants.{BOX_LIMIT};
+ghost use Rattle.space3.specs.Box.{IsInTheBox};
+ghost use Rattle.space3.specs.Boxes.{are_within};
 ghost use Rattle.space3.specs.Mesh.{HasNodes};
+ghost use Rattle.space3.specs.Vectors.{AtMost};
 ghost use Rattle.boundary.specs.Pairs.{IsPair};
+ghost use Rattle.box_grid.specs.Near.{LiesInTheBox};
 ghost use Rattle.broad_grid.specs.Kept.{IsWhole, differ_by_at_most, has_stayed, have_stayed};
 ghost use Rattle.broad_grid.specs.NearPairs.{close_pairs_of, is_close};
 ghost use Rattle.broad_grid.specs.Calls.Boxes.{HasBoth, has_close_boxes};
@@ -11,7 +16,7 @@ use crate::list::PairList;
 use crate::near::append_where;
 use crate::pairs::close_pairs;
 use boundary::{Pair, PairKind, Surface};
-use space3::{Places, V3, are_within};
+use space3::{BoundingBox, Places, V3};
 use std::alloc::{AllocError, Global};
 use std::marker::Model;
 
@@ -167,8 +172,39 @@ fn has_close_boxes(boxes: &BoxLists, reach: u32, pair: Pair) -> bool
     let a = pair.a as usize;
     let b = pair.b as usize;
     match pair.kind {
-        PairKind::VT => are_within(reach, &boxes.vertices[a], &boxes.triangles[b]),
-        PairKind::EE => are_within(reach, &boxes.edges[a], &boxes.edges[b]),
+        PairKind::VT => are_close(reach, &boxes.vertices[a], &boxes.triangles[b]),
+        PairKind::EE => are_close(reach, &boxes.edges[a], &boxes.edges[b]),
         PairKind::VE | PairKind::ET => false,
     }
+}
+
+// Whether the gap between two boxes is at most the reach along each axis. Their differences need no care: both are in the
+// box of places.
+fn are_close(reach: u32, a: &BoundingBox, b: &BoundingBox) -> bool
+    requires first { LiesInTheBox a.now }
+    requires second { LiesInTheBox b.now }
+    ensures { result ≡ are_within reach a.now b.now }
+{
+    is_corner_close(reach, b.least, a.greatest) & is_corner_close(reach, a.least, b.greatest)
+}
+
+// Whether no component of `a` is greater than that of `b` by more than the reach.
+fn is_corner_close(reach: u32, a: V3, b: V3) -> bool
+    requires first { IsInTheBox a }
+    requires second { IsInTheBox b }
+    ensures { result ≡ (int_le (a.x -ℤ b.x) (pos reach) && int_le (a.y -ℤ b.y) (pos reach)
+        && int_le (a.z -ℤ b.z) (pos reach)) }
+{
+    is_past_by_at_most(reach, a.x, b.x)
+        & is_past_by_at_most(reach, a.y, b.y)
+        & is_past_by_at_most(reach, a.z, b.z)
+}
+
+// Whether `a` is past `b` by at most the reach.
+fn is_past_by_at_most(reach: u32, a: i64, b: i64) -> bool
+    requires first { AtMost BOX_LIMIT a }
+    requires second { AtMost BOX_LIMIT b }
+    ensures { result ≡ int_le (a -ℤ b) (pos reach) }
+{
+    a - b <= i64::from(reach)
 }

@@ -48,10 +48,12 @@ pub record HasBoxes (s : SurfaceLists) (x0 x1 : List V3) (boxes : BoxesOfParts) 
   pub edges_in_box : All LiesInTheBox boxes.edges
   pub triangles_in_box : All LiesInTheBox boxes.triangles
 
--- there is a box of each part of the pair
+-- there is a box of each part of the pair, in the box of places
 pub record HasBoth (boxes : BoxesOfParts) (p : Pair) : Type 0 where
   pub first : p.a < length (first_boxes boxes p.kind)
   pub second : p.b < length (second_boxes boxes p.kind)
+  pub first_in_box : LiesInTheBox (box_at (first_boxes boxes p.kind) p.a)
+  pub second_in_box : LiesInTheBox (box_at (second_boxes boxes p.kind) p.b)
 
 -- a vertex and a triangle, or two edges, whose boxes have a gap of at most `reach` along each axis
 abbrev pub has_close_boxes : ℕ → BoxesOfParts → Pair → Bool
