@@ -6,6 +6,7 @@ use Rattle.std.proofs.lemmas.Bool.{and_parts}
 use Rattle.std.proofs.lemmas.Int.{ints}
 use Rattle.std.proofs.lemmas.Nat.{le-div, div-add-mod'}
 use Rattle.list_laws.proofs.Membership.{Contains-flat_map, Contains-range}
+use Rattle.space3.specs.Boxes.{are_within}
 use Rattle.space3.specs.Vectors.{AtMost, origin}
 use Rattle.space3.specs.declared.boxes.BoundingBox.{BoundingBox}
 use Rattle.space3.specs.declared.places.TheConstants.{BOX_LIMIT}
@@ -15,7 +16,7 @@ use Rattle.box_grid.specs.declared.entries.Entry.{Entry}
 use Rattle.box_grid.specs.declared.sizes.Level.{Level}
 use Rattle.box_grid.specs.declared.limits.TheConstants.{AXIS_LIMIT, LEAST_SIDE, REACH_LIMIT}
 use Rattle.box_grid.specs.Near.{LiesInTheBox, box_at}
-use Rattle.box_grid.specs.Calls.Cells.{LiesByTheBox, cell_of, cells_over, entries_in, entries_of, entries_of_boxes, entry, has, key_of, row_of, touches}
+use Rattle.box_grid.specs.Calls.Cells.{LiesByTheBox, cell_of, cells_over, entries_in, entries_of, entries_of_boxes, entry, has, key_of, row_of}
 use Rattle.box_grid.proofs.CellRows.{entry_of_cell, key_along_row, row_of_cell}
 use Rattle.box_grid.proofs.WideBoxes.{by_the_box}
 
@@ -80,7 +81,7 @@ entry_of_common_cell a b item cx cy cz =
     }
 
 -- a box that touches has an entry in a row of the cells
-pub entry_of_touching_box : (level : Level) (reached : BoundingBox) (boxes : List BoundingBox) (item : ℕ) → LEAST_SIDE ≤ level.side → LiesByTheBox reached → All LiesInTheBox boxes → item < length boxes → IsTrue (touches reached boxes item) → has level (box_at boxes item) ≡ true →
+pub entry_of_touching_box : (level : Level) (reached : BoundingBox) (boxes : List BoundingBox) (item : ℕ) → LEAST_SIDE ≤ level.side → LiesByTheBox reached → All LiesInTheBox boxes → item < length boxes → IsTrue (are_within 0 reached (box_at boxes item)) → has level (box_at boxes item) ≡ true →
     EntryInRows (entries_of_boxes level boxes) (cells_over level.side reached) item
 entry_of_touching_box level a boxes item s h all below touch had =
     let side = level.side in

@@ -1,5 +1,5 @@
 -- The positions of the boxes that are near another one.
-use Rattle.std.specs.Prelude.{ℕ, List, filter, length, slice_index_or}
+use Rattle.std.specs.Prelude.{ℕ, ◌&&◌, List, nat_le, filter, length, slice_index_or}
 use Rattle.std.specs.List.{range_with_len}
 use Rattle.space3.specs.Box.{IsInTheBox}
 use Rattle.space3.specs.Boxes.{are_within}
@@ -15,7 +15,7 @@ pub record LiesInTheBox (around : BoundingBox) : Type 0 where
 abbrev pub box_at : List BoundingBox → ℕ → BoundingBox
 box_at boxes i = slice_index_or boxes i (record { least = origin; greatest = origin })
 
--- the positions of the boxes whose gap to `around` is at most `reach` along each axis, ascending
-abbrev pub near_positions : ℕ → BoundingBox → List BoundingBox → List ℕ
-near_positions reach around boxes =
-    filter (λ i. are_within reach around (box_at boxes i)) (range_with_len 0 (length boxes))
+-- the positions, from `from` on, of the boxes whose gap to `around` is at most `reach` along each axis, ascending
+abbrev pub near_positions : ℕ → BoundingBox → ℕ → List BoundingBox → List ℕ
+near_positions reach around from boxes =
+    filter (λ i. nat_le from i && are_within reach around (box_at boxes i)) (range_with_len 0 (length boxes))

@@ -6,7 +6,7 @@ use crate::cells::{cells_over, row_count, widened};
 use crate::entries::{Entry, entries_of_boxes};
 use crate::limits::{BOXES_A_ROW, REACH_LIMIT};
 use crate::search::{
-    append_all_touching, append_touching_of_level, append_touching_over, keep_ascending,
+    Query, append_all_touching, append_touching_of_level, append_touching_over, keep_ascending,
 };
 use crate::sizes::{Level, common_side, great_side};
 use space3::BoundingBox;
@@ -75,33 +75,37 @@ impl BoxGrid {
         self.boxes.as_slice()
     }
 
-    /// Writes the positions of the boxes whose gap to `around` is at most `reach` grid units along each axis into
-    /// `found`, ascending; it may hold anything before. Answers how often two boxes were compared, at least once for each
-    /// of these.
+    /// Writes the positions, from `from` on, of the boxes whose gap to `around` is at most `reach` grid units along each
+    /// axis into `found`, ascending; it may hold anything before. Answers how many boxes were looked at, at least one for
+    /// each of these.
     pub fn near(
         &self,
         reach: u32,
         around: &BoundingBox,
+        from: u32,
         found: &mut Vec<u32>,
     ) -> Result<u64, AllocError>
         requires reach { reach ≤ REACH_LIMIT }
         requires in_box { LiesInTheBox around.now }
         ensures found { IfOk result (λ _. found.new.items ≡
-            near_positions reach around.now self.now) }
-        ensures counted { IfOk result (λ compared. length found.new.items ≤ compared) }
+            near_positions reach around.now from self.now) }
+        ensures counted { IfOk result (λ looked_at. length found.new.items ≤ looked_at) }
     {
-        let reached = widened(around, reach);
-        let cells = cells_over(self.side, &reached);
+        let query = Query {
+            reached: widened(around, reach),
+            from,
+        };
+        let cells = cells_over(self.side, &query.reached);
         found.clear();
         if row_count(&cells) > self.boxes.len() as u64 / BOXES_A_ROW {
-            return append_all_touching(&self.boxes, &reached, found);
+            return append_all_touching(&self.boxes, &query, found);
         }
-        let common = append_touching_over(&self.entries, &cells, &self.boxes, &reached, found)?;
+        let common = append_touching_over(&self.entries, &cells, &self.boxes, &query, found)?;
         let great = append_touching_of_level(
             &self.great_entries,
             self.great_side,
             &self.boxes,
-            &reached,
+            &query,
             found,
         )?;
         keep_ascending(found);

@@ -1,4 +1,5 @@
 mod BoxesInTheBox
+mod CloseBoxes
 pub mod CloseCounts
 mod Counts
 pub mod KeptAll

@@ -10,9 +10,8 @@ use Rattle.boundary.specs.declared.pairs.PairKind.TheVariants.{VE, VT, EE, ET}
 use Rattle.boundary.specs.Calls.Parts.{IsPart}
 use Rattle.boundary.specs.Pairs.{second_parts}
 use Rattle.boundary.specs.Surface.{SurfaceLists}
-use Rattle.broad_grid.specs.declared.boxes.PartBoxes.{PartBoxes}
 use Rattle.broad_grid.specs.PartBoxes.{swept_box}
-use Rattle.broad_grid.specs.Calls.Boxes.{HasBoxes, IsPlaced, first_boxes, second_boxes}
+use Rattle.broad_grid.specs.Calls.Boxes.{BoxesOfParts, HasBoxes, IsPlaced, first_boxes, second_boxes}
 use Rattle.broad_grid.specs.Calls.Rows.{AreFirst, HasAsMany}
 
 -- one to three vertices have places where all vertices have
@@ -27,22 +26,22 @@ placed s x0 x1 nodes h k part = record {
 pub parts_placed : (s : SurfaceLists) (x0 x1 : List V3) (parts : List (List ℕ)) → HasNodes x0 s.vertices → HasNodes x1 s.vertices → ((i : ℕ) → i < length parts → IsPart s (get_or parts i [])) → All (IsPlaced x0 x1) parts
 parts_placed s x0 x1 parts h k each = λ i d l. placed s x0 x1 (get_or parts i d) h k (subst (IsPart s) (get_or_default parts i [] d l) (each i l))
 
-vertex_count : (s : SurfaceLists) (x0 x1 : List V3) (boxes : PartBoxes) → HasBoxes s x0 x1 boxes → length boxes.vertices.items ≡ length s.vertices
+vertex_count : (s : SurfaceLists) (x0 x1 : List V3) (boxes : BoxesOfParts) → HasBoxes s x0 x1 boxes → length boxes.vertices ≡ length s.vertices
 vertex_count s x0 x1 boxes h = ap length h.vertices ∙ length-map s.vertices (λ vertex. swept_box x0 x1 (vertex ∷ []))
 
-edge_count : (s : SurfaceLists) (x0 x1 : List V3) (boxes : PartBoxes) → HasBoxes s x0 x1 boxes → length boxes.edges ≡ length s.edges
+edge_count : (s : SurfaceLists) (x0 x1 : List V3) (boxes : BoxesOfParts) → HasBoxes s x0 x1 boxes → length boxes.edges ≡ length s.edges
 edge_count s x0 x1 boxes h = ap length h.edges ∙ length-map s.edges (swept_box x0 x1)
 
-triangle_count : (s : SurfaceLists) (x0 x1 : List V3) (boxes : PartBoxes) → HasBoxes s x0 x1 boxes → length boxes.triangles ≡ length s.triangles
+triangle_count : (s : SurfaceLists) (x0 x1 : List V3) (boxes : BoxesOfParts) → HasBoxes s x0 x1 boxes → length boxes.triangles ≡ length s.triangles
 triangle_count s x0 x1 boxes h = ap length h.triangles ∙ length-map s.triangles (swept_box x0 x1)
 
-pub as_many : (s : SurfaceLists) (x0 x1 : List V3) (boxes : PartBoxes) → HasBoxes s x0 x1 boxes → HasAsMany s boxes
+pub as_many : (s : SurfaceLists) (x0 x1 : List V3) (boxes : BoxesOfParts) → HasBoxes s x0 x1 boxes → HasAsMany s boxes
 as_many s x0 x1 boxes h = record { firsts = firsts; seconds = seconds }
   where
-    vertex_firsts : length boxes.vertices.items ≡ length (map (λ (vertex : ℕ). vertex ∷ []) s.vertices)
+    vertex_firsts : length boxes.vertices ≡ length (map (λ (vertex : ℕ). vertex ∷ []) s.vertices)
     vertex_firsts = vertex_count s x0 x1 boxes h ∙ sym (length-map s.vertices (λ (vertex : ℕ). vertex ∷ []))
 
-    few_vertices : length boxes.vertices.items < 2 ^ 32
+    few_vertices : length boxes.vertices < 2 ^ 32
     few_vertices = omega (arith, vertex_count s x0 x1 boxes h, h.lists.few_vertices)
 
     few_edges : length boxes.edges < 2 ^ 32

@@ -1,5 +1,6 @@
 -- The near pairs by their first parts are a filter of the pair order.
 use Rattle.std.proofs.Common.{◌≡◌, ◌∙◌, ℕ, ◌+◌, ◌<◌, Bool, true, false, ◌&&◌, cond, List, [], ◌∷◌, ◌++◌, map, length, get_or, ap, sym, subst, refl, append_assoc, arith}
+use Rattle.std.specs.Prelude.{nat_le, not}
 use Rattle.std.specs.List.{All, filter, flat_map, range_with_len}
 use Rattle.std.proofs.Math.ListN.{get_or-map}
 use Rattle.std.proofs.lemmas.List.{length-map}
@@ -13,15 +14,14 @@ use Rattle.space3.specs.Boxes.{are_within}
 use Rattle.boundary.specs.declared.pairs.Pair.{Pair}
 use Rattle.boundary.specs.declared.pairs.PairKind.{PairKind}
 use Rattle.boundary.specs.declared.pairs.PairKind.TheVariants.{VE, VT, EE, ET}
-use Rattle.boundary.specs.Pairs.{all_pairs, counts, first_parts, kinds, pair_of, pairs_of_kind, second_parts}
+use Rattle.boundary.specs.Pairs.{all_pairs, counts, first_parts, is_in_order, kinds, pair_of, pairs_of_kind, part_pair, second_parts, share_node}
 use Rattle.boundary.specs.Surface.{SurfaceLists}
 use Rattle.box_grid.specs.Near.{box_at, near_positions}
-use Rattle.broad_grid.specs.declared.boxes.PartBoxes.{PartBoxes}
 use Rattle.broad_grid.specs.declared.near.FirstPart.{FirstPart}
 use Rattle.broad_grid.specs.NearPairs.{are_boxes_within, close_pairs_of, is_close}
 use Rattle.broad_grid.specs.PartBoxes.{part_box, swept_box}
-use Rattle.broad_grid.specs.Calls.Boxes.{HasBoxes, first_boxes, second_boxes}
-use Rattle.broad_grid.specs.Calls.Rows.{first_part, near_row, near_rows, near_rows_of_kinds}
+use Rattle.broad_grid.specs.Calls.Boxes.{BoxesOfParts, HasBoxes, first_boxes, second_boxes}
+use Rattle.broad_grid.specs.Calls.Rows.{first_part, least_second, near_row, near_rows, near_rows_of_kinds}
 use Rattle.broad_grid.specs.Calls.Walk.{near_pairs_of}
 use Rattle.broad_grid.proofs.BoxesInTheBox.{around_itself}
 
@@ -72,14 +72,30 @@ by_rows p s kind =
     ∙ (λ i. flat_map (λ a. filter-map both (pair_of kind a) (range_with_len 0 n) i) (range_with_len 0 m))
 
 -- ---- the rows of boxes
+-- a second part that is in order is not below the least one
+from_least : (kind : PairKind) (a b : ℕ) → is_in_order kind a b ≡ true → nat_le (least_second kind a) b ≡ true
+from_least VE a b e = grind arith
+from_least VT a b e = grind arith
+from_least EE a b e = grind arith
+from_least ET a b e = grind arith
+
 -- the near positions that count
 near_that_count : (reach : ℕ) (s : SurfaceLists) (first : FirstPart) (boxes : List BoundingBox) →
     near_row reach s first boxes ≡ map (pair_of first.kind first.a) (filter (λ b. are_within reach first.around (box_at boxes b) && counts s (pair_of first.kind first.a b)) (range_with_len 0 (length boxes)))
 near_that_count reach s first boxes =
+    let kind = first.kind in
+    let a = first.a in
     let near : ℕ → Bool = λ b. are_within reach first.around (box_at boxes b) in
-    let count : ℕ → Bool = λ b. counts s (pair_of first.kind first.a b) in
+    let late : ℕ → Bool = λ b. nat_le (least_second kind a) b && near b in
+    let count : ℕ → Bool = λ b. counts s (pair_of kind a b) in
     let positions = range_with_len 0 (length boxes) in
-    ap (map (pair_of first.kind first.a)) (filter-filter count near positions ∙ (λ i. filter (λ b. and_turned (count b) (near b) i) positions))
+    let same : (b : ℕ) → (count b && late b) ≡ (near b && count b) = λ b.
+    turned (is_in_order kind a b) (nat_le (least_second kind a) b) (not (share_node (part_pair s (pair_of kind a b)))) (near b) (from_least kind a b) in
+    ap (map (pair_of kind a)) (filter-filter count late positions ∙ (λ i. filter (λ b. same b i) positions))
+  where
+    turned : (ordered late apart near : Bool) → (ordered ≡ true → late ≡ true) → ((ordered && apart) && (late && near)) ≡ (near && (ordered && apart))
+    turned true late apart near h = rw (h refl) (and_turned apart near)
+    turned false late apart near h = sym (and_false near)
 
 -- the boxes of parts, in place of their nodes
 rows_of_boxes : (reach : ℕ) (s : SurfaceLists) (x0 x1 : List V3) (kind : PairKind) (firsts seconds : List BoundingBox) → firsts ≡ map (swept_box x0 x1) (first_parts s kind) → seconds ≡ map (swept_box x0 x1) (second_parts s kind) →
@@ -93,26 +109,26 @@ rows_of_boxes reach s x0 x1 kind firsts seconds e f =
     (λ i. flat_map (λ a. near_that_count reach s (first_part kind firsts a) seconds i) (range_with_len 0 (length firsts)))
     ∙ (λ i. flat_map (λ a. map (pair_of kind a) (filter (λ b. are_within reach (first a i) (second b i) && counts s (pair_of kind a b)) (range_with_len 0 (n i)))) (range_with_len 0 (m i)))
 
-vertices_first : (s : SurfaceLists) (x0 x1 : List V3) (boxes : PartBoxes) → HasBoxes s x0 x1 boxes → boxes.vertices.items ≡ map (swept_box x0 x1) (map (λ vertex. vertex ∷ []) s.vertices)
+vertices_first : (s : SurfaceLists) (x0 x1 : List V3) (boxes : BoxesOfParts) → HasBoxes s x0 x1 boxes → boxes.vertices ≡ map (swept_box x0 x1) (map (λ vertex. vertex ∷ []) s.vertices)
 vertices_first s x0 x1 boxes h = h.vertices ∙ composed s.vertices
   where
     composed : (vs : List ℕ) → map (λ vertex. swept_box x0 x1 (vertex ∷ [])) vs ≡ map (swept_box x0 x1) (map (λ vertex. vertex ∷ []) vs)
     composed [] = refl
     composed (v ∷ vs) = ap (λ (l : List BoundingBox). swept_box x0 x1 (v ∷ []) ∷ l) (composed vs)
 
-firsts_are : (s : SurfaceLists) (x0 x1 : List V3) (boxes : PartBoxes) → HasBoxes s x0 x1 boxes → (kind : PairKind) → first_boxes boxes kind ≡ map (swept_box x0 x1) (first_parts s kind)
+pub firsts_are : (s : SurfaceLists) (x0 x1 : List V3) (boxes : BoxesOfParts) → HasBoxes s x0 x1 boxes → (kind : PairKind) → first_boxes boxes kind ≡ map (swept_box x0 x1) (first_parts s kind)
 firsts_are s x0 x1 boxes h VE = vertices_first s x0 x1 boxes h
 firsts_are s x0 x1 boxes h VT = vertices_first s x0 x1 boxes h
 firsts_are s x0 x1 boxes h EE = h.edges
 firsts_are s x0 x1 boxes h ET = h.edges
 
-seconds_are : (s : SurfaceLists) (x0 x1 : List V3) (boxes : PartBoxes) → HasBoxes s x0 x1 boxes → (kind : PairKind) → second_boxes boxes kind ≡ map (swept_box x0 x1) (second_parts s kind)
+pub seconds_are : (s : SurfaceLists) (x0 x1 : List V3) (boxes : BoxesOfParts) → HasBoxes s x0 x1 boxes → (kind : PairKind) → second_boxes boxes kind ≡ map (swept_box x0 x1) (second_parts s kind)
 seconds_are s x0 x1 boxes h VE = h.edges
 seconds_are s x0 x1 boxes h VT = h.triangles
 seconds_are s x0 x1 boxes h EE = h.edges
 seconds_are s x0 x1 boxes h ET = h.triangles
 
-pub rows_are_near_pairs : (reach : ℕ) (s : SurfaceLists) (x0 x1 : List V3) (boxes : PartBoxes) (ks : List PairKind) → HasBoxes s x0 x1 boxes → near_rows_of_kinds reach s boxes ks ≡ near_pairs_of reach s x0 x1 ks
+pub rows_are_near_pairs : (reach : ℕ) (s : SurfaceLists) (x0 x1 : List V3) (boxes : BoxesOfParts) (ks : List PairKind) → HasBoxes s x0 x1 boxes → near_rows_of_kinds reach s boxes ks ≡ near_pairs_of reach s x0 x1 ks
 rows_are_near_pairs reach s x0 x1 boxes ks h =
     let near = are_boxes_within reach s x0 x1 in
     (λ i. flat_map (λ kind. rows_of_boxes reach s x0 x1 kind (first_boxes boxes kind) (second_boxes boxes kind) (firsts_are s x0 x1 boxes h kind) (seconds_are s x0 x1 boxes h kind) i) ks)
@@ -152,10 +168,10 @@ close_as_near reach s x =
 
 -- ---- the walk
 -- near positions are those of second parts
-pub near_are_there : (reach : ℕ) (around : BoundingBox) (boxes : List BoundingBox) (found list : List ℕ) (n : ℕ) → found ≡ near_positions reach around boxes → list ≡ found → length boxes ≡ n → All (λ b. b < n) list
-near_are_there reach around boxes found list n is same many =
+pub near_are_there : (reach : ℕ) (around : BoundingBox) (from : ℕ) (boxes : List BoundingBox) (found list : List ℕ) (n : ℕ) → found ≡ near_positions reach around from boxes → list ≡ found → length boxes ≡ n → All (λ b. b < n) list
+near_are_there reach around from boxes found list n is same many =
     subst (All (λ b. b < n)) (sym (same ∙ is))
-    (All-filter (λ i. are_within reach around (box_at boxes i)) (λ b. b < n) (range_with_len 0 (length boxes))
+    (All-filter (λ i. nat_le from i && are_within reach around (box_at boxes i)) (λ b. b < n) (range_with_len 0 (length boxes))
     (All-counted (λ b. b < n) (length boxes) (λ b l. omega (arith, many))))
 
 -- one row more

@@ -9,9 +9,30 @@ use boundary::{PairKind, Surface};
 use box_grid::BoxGrid;
 use space3::{BoundingBox, Places, box_around, box_of};
 use std::alloc::{AllocError, Global};
+use std::marker::Model;
 use std::slice::from_ref;
 
 /// The boxes of a surface's vertices, edges and triangles, each in the order of its list.
+#[derive(Drop)]
+pub(crate) struct BoxLists {
+    pub vertices: Vec<BoundingBox>,
+    pub edges: Vec<BoundingBox>,
+    pub triangles: Vec<BoundingBox>,
+}
+
+impl Model for BoxLists {
+    ghost use Rattle.broad_grid.specs.Calls.Boxes.{BoxesOfParts};
+
+    ghost Value = { BoxesOfParts };
+
+    ghost view = { λ b. record {
+      vertices = b.vertices.items;
+      edges = b.edges.items;
+      triangles = b.triangles.items;
+    } };
+}
+
+/// The same, those of edges and of triangles in a grid each.
 #[derive(Drop)]
 pub(crate) struct PartBoxes {
     pub vertices: Vec<BoundingBox>,
@@ -19,7 +40,40 @@ pub(crate) struct PartBoxes {
     pub triangles: BoxGrid,
 }
 
+impl Model for PartBoxes {
+    ghost use Rattle.broad_grid.specs.Calls.Boxes.{BoxesOfParts};
+
+    ghost Value = { BoxesOfParts };
+
+    ghost view = { λ b. record {
+      vertices = b.vertices.items;
+      edges = b.edges;
+      triangles = b.triangles;
+    } };
+}
+
 /// The boxes of all parts, each around the corners at the start and at the end of a motion.
+pub(crate) fn box_lists(
+    alloc: Global,
+    surface: &Surface,
+    x0: &Places,
+    x1: &Places,
+) -> Result<BoxLists, AllocError>
+    requires start { HasNodes x0.now surface.now.vertices }
+    requires end { HasNodes x1.now surface.now.vertices }
+    ensures { IfOk result (HasBoxes surface.now x0.now x1.now) }
+{
+    let vertices = vertex_boxes(alloc, x0, x1, surface.vertices())?;
+    let edges = boxes_of_parts(alloc, x0, x1, surface.edges())?;
+    let triangles = boxes_of_parts(alloc, x0, x1, surface.triangles())?;
+    Ok(BoxLists {
+        vertices,
+        edges,
+        triangles,
+    })
+}
+
+/// The same boxes, in grids.
 pub(crate) fn part_boxes(
     alloc: Global,
     surface: &Surface,
@@ -31,13 +85,11 @@ pub(crate) fn part_boxes(
     requires end { HasNodes x1.now surface.now.vertices }
     ensures { IfOk result (HasBoxes surface.now x0.now x1.now) }
 {
-    let vertices = vertex_boxes(alloc, x0, x1, surface.vertices())?;
-    let edges = boxes_of_parts(alloc, x0, x1, surface.edges())?;
-    let triangles = boxes_of_parts(alloc, x0, x1, surface.triangles())?;
+    let lists = box_lists(alloc, surface, x0, x1)?;
     Ok(PartBoxes {
-        vertices,
-        edges: BoxGrid::of_boxes(alloc, edges, reach)?,
-        triangles: BoxGrid::of_boxes(alloc, triangles, reach)?,
+        vertices: lists.vertices,
+        edges: BoxGrid::of_boxes(alloc, lists.edges, reach)?,
+        triangles: BoxGrid::of_boxes(alloc, lists.triangles, reach)?,
     })
 }
 
@@ -109,8 +161,8 @@ fn swept_box(x0: &Places, x1: &Places, nodes: &[u32]) -> BoundingBox
     box_around(&part_box(x0, nodes), &part_box(x1, nodes))
 }
 
-/// The box around the places of these nodes.
-pub(crate) fn part_box(places: &Places, nodes: &[u32]) -> BoundingBox
+// The box around the places of these nodes.
+fn part_box(places: &Places, nodes: &[u32]) -> BoundingBox
     requires some { 0 < length nodes.now }
     requires placed { HasNodes places.now nodes.now }
     ensures value { result ≡ part_box places.now nodes.now }

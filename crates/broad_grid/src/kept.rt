@@ -1,22 +1,24 @@
 //! Near pairs that are kept, so that those that are close later are found among them.
-ghost use Rattle.std.specs.Prelude.{◌≡◌, ◌+◌, ◌*◌, ◌-ℤ◌, ◌≤◌, IfOk, IsTrue, All, false, filter, length, nat_le, unsigned_abs};
+ghost use Rattle.std.specs.Prelude.{◌≡◌, ◌+◌, ◌*◌, ◌-ℤ◌, ◌≤◌, ◌&&◌, IfOk, IsTrue, All, false, filter, int_le, length, nat_le, pos, unsigned_abs};
+ghost use Rattle.space3.specs.declared.places.TheConstants.{BOX_LIMIT};
+ghost use Rattle.space3.specs.Box.{IsInTheBox};
 ghost use Rattle.space3.specs.Boxes.{are_within};
 ghost use Rattle.space3.specs.Mesh.{HasNodes};
+ghost use Rattle.space3.specs.Vectors.{AtMost};
 ghost use Rattle.boundary.specs.Pairs.{IsPair};
+ghost use Rattle.box_grid.specs.Near.{LiesInTheBox};
 ghost use Rattle.broad_grid.specs.Kept.{IsWhole, differ_by_at_most, has_stayed, have_stayed};
 ghost use Rattle.broad_grid.specs.NearPairs.{close_pairs_of, is_close};
-ghost use Rattle.broad_grid.specs.PartBoxes.{part_box};
-ghost use Rattle.broad_grid.specs.Calls.Boxes.{IsPlaced};
+ghost use Rattle.broad_grid.specs.Calls.Boxes.{HasBoth, has_close_boxes};
 
-use crate::boxes::part_box;
+use crate::boxes::{BoxLists, box_lists};
 use crate::list::PairList;
 use crate::near::append_where;
 use crate::pairs::close_pairs;
 use boundary::{Pair, PairKind, Surface};
-use space3::{Places, V3, are_within};
+use space3::{BoundingBox, Places, V3};
 use std::alloc::{AllocError, Global};
 use std::marker::Model;
-use std::slice::from_ref;
 
 /// The most that a reach or a margin may be, in grid units: 2^10. So a reach and twice a margin are less than the
 /// greatest gap that `box_grid` takes.
@@ -149,39 +151,68 @@ fn close_among(
     requires pairs { All (IsPair surface.now) pairs.now }
     ensures { IfOk result (λ close. close ≡ filter (is_close reach surface.now x.now) pairs.now) }
 {
+    let boxes = box_lists(alloc, surface, x, x)?;
+    close_by_boxes(alloc, &boxes, reach, pairs)
+}
+
+// Those of the pairs that are close by these boxes.
+fn close_by_boxes(
+    alloc: Global,
+    boxes: &BoxLists,
+    reach: u32,
+    pairs: &[Pair],
+) -> Result<PairList, AllocError>
+    requires { All (HasBoth boxes.now) pairs.now }
+    ensures { IfOk result (λ close. close ≡ filter (has_close_boxes reach boxes.now) pairs.now) }
+{
     let mut close = Vec::new(alloc);
     for pair in pairs {
-        append_where(is_close(surface, x, reach, *pair), *pair, &mut close)?;
+        append_where(has_close_boxes(boxes, reach, *pair), *pair, &mut close)?;
     }
     Ok(PairList::of_vec(close))
 }
 
 // Whether a pair has a distance of its own, and the boxes of its parts are within the reach.
-fn is_close(surface: &Surface, x: &Places, reach: u32, pair: Pair) -> bool
-    requires placed { HasNodes x.now surface.now.vertices }
-    requires pair { IsPair surface.now pair }
-    ensures { result ≡ is_close reach surface.now x.now pair }
+fn has_close_boxes(boxes: &BoxLists, reach: u32, pair: Pair) -> bool
+    requires { HasBoth boxes.now pair }
+    ensures { result ≡ has_close_boxes reach boxes.now pair }
 {
     let a = pair.a as usize;
     let b = pair.b as usize;
     match pair.kind {
-        PairKind::VT => {
-            let vertex = from_ref(&surface.vertices()[a]);
-            are_parts_within(x, reach, vertex, &surface.triangles()[b])
-        }
-        PairKind::EE => {
-            let edges = surface.edges();
-            are_parts_within(x, reach, &edges[a], &edges[b])
-        }
+        PairKind::VT => are_close(reach, &boxes.vertices[a], &boxes.triangles[b]),
+        PairKind::EE => are_close(reach, &boxes.edges[a], &boxes.edges[b]),
         PairKind::VE | PairKind::ET => false,
     }
 }
 
-// Whether the boxes of two parts, by their nodes, are within the reach.
-fn are_parts_within(x: &Places, reach: u32, left: &[u32], right: &[u32]) -> bool
-    requires left { IsPlaced x.now x.now left.now }
-    requires right { IsPlaced x.now x.now right.now }
-    ensures { result ≡ are_within reach (part_box x.now left.now) (part_box x.now right.now) }
+// Whether the gap between two boxes is at most the reach along each axis. Their differences need no care: both are in the
+// box of places.
+fn are_close(reach: u32, a: &BoundingBox, b: &BoundingBox) -> bool
+    requires first { LiesInTheBox a.now }
+    requires second { LiesInTheBox b.now }
+    ensures { result ≡ are_within reach a.now b.now }
 {
-    are_within(reach, &part_box(x, left), &part_box(x, right))
+    is_corner_close(reach, b.least, a.greatest) & is_corner_close(reach, a.least, b.greatest)
+}
+
+// Whether no component of `a` is greater than that of `b` by more than the reach.
+fn is_corner_close(reach: u32, a: V3, b: V3) -> bool
+    requires first { IsInTheBox a }
+    requires second { IsInTheBox b }
+    ensures { result ≡ (int_le (a.x -ℤ b.x) (pos reach) && int_le (a.y -ℤ b.y) (pos reach)
+        && int_le (a.z -ℤ b.z) (pos reach)) }
+{
+    is_past_by_at_most(reach, a.x, b.x)
+        & is_past_by_at_most(reach, a.y, b.y)
+        & is_past_by_at_most(reach, a.z, b.z)
+}
+
+// Whether `a` is past `b` by at most the reach.
+fn is_past_by_at_most(reach: u32, a: i64, b: i64) -> bool
+    requires first { AtMost BOX_LIMIT a }
+    requires second { AtMost BOX_LIMIT b }
+    ensures { result ≡ int_le (a -ℤ b) (pos reach) }
+{
+    a - b <= i64::from(reach)
 }

@@ -1,11 +1,11 @@
 //! The walk over first parts, for each of which a grid gives the second parts that are near.
-ghost use Rattle.std.specs.Prelude.{◌≡◌, ◌<◌, ◌≤◌, ◌+◌, ◌++◌, ◌∷◌, [], IfOk, All, length, if◌then◌else◌};
+ghost use Rattle.std.specs.Prelude.{◌≡◌, ◌<◌, ◌≤◌, ◌+◌, ◌^◌, ◌++◌, ◌∷◌, [], IfOk, All, length, if◌then◌else◌};
 ghost use Rattle.space3.specs.Mesh.{HasNodes};
 ghost use Rattle.boundary.specs.Pairs.{first_parts, pair_of, second_parts};
 ghost use Rattle.box_grid.specs.Near.{LiesInTheBox};
 ghost use Rattle.box_grid.specs.declared.limits.TheConstants.{REACH_LIMIT};
 ghost use Rattle.broad_grid.specs.Calls.Counts.{HasCounted};
-ghost use Rattle.broad_grid.specs.Calls.Rows.{AreFirst, HasAsMany, IsFirst, near_row, near_rows, near_rows_of_kinds, pairs_with};
+ghost use Rattle.broad_grid.specs.Calls.Rows.{AreFirst, HasAsMany, IsFirst, least_second, near_row, near_rows, near_rows_of_kinds, pairs_with};
 ghost use Rattle.broad_grid.specs.Calls.Walk.{near_pairs_of};
 
 use crate::boxes::{PartBoxes, first_boxes, part_boxes, second_grid};
@@ -15,7 +15,7 @@ use box_grid::BoxGrid;
 use space3::{BoundingBox, Places};
 use std::alloc::{AllocError, Global};
 
-/// How often two boxes were compared. The number stays at the greatest of its type once it is there.
+/// How many boxes were looked at in search of near ones. The number stays at the greatest of its type once it is there.
 #[derive(Clone, Copy, Debug, PartialEq, Eq)]
 pub struct BoxTests {
     pub n: u64,
@@ -131,9 +131,20 @@ fn append_row(
     ensures counted { IfOk result (λ _. HasCounted tests.old.n tests.new.n
         (length pairs.old.items) (length pairs.new.items)) }
 {
-    let compared = grid.near(reach, &first.around, found)?;
-    tests.n = tests.n.saturating_add(compared);
+    let looked_at = grid.near(reach, &first.around, least_second(first), found)?;
+    tests.n = tests.n.saturating_add(looked_at);
     append_pairs(surface, first, found, pairs)
+}
+
+// Below this position no second part counts with this first one: of two edges the lower one is first.
+fn least_second(first: FirstPart) -> u32
+    requires { first.a + 1 < 2 ^ 32 }
+    ensures { result ≡ least_second first.kind first.a }
+{
+    match first.kind {
+        PairKind::EE => first.a + 1,
+        PairKind::VE | PairKind::VT | PairKind::ET => 0,
+    }
 }
 
 // Appends the pairs of a first part with those of these second parts that count.

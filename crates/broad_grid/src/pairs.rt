@@ -29,7 +29,7 @@ pub fn swept_pairs(
     swept_pairs_counted(alloc, surface, x0, x1, &mut tests)
 }
 
-/// The same pairs. The comparisons of two boxes are added to `tests`, one or more for each pair of the answer; at the end
+/// The same pairs. The boxes that were looked at are added to `tests`, one or more for each pair of the answer; at the end
 /// of its type the number stands still.
 pub fn swept_pairs_counted(
     alloc: Global,

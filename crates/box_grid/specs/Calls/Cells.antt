@@ -1,5 +1,5 @@
 -- The cells of a uniform grid, by rows along the third axis, and the entries of the cells that boxes cover.
-use Rattle.std.specs.Prelude.{ℕ, ◌+◌, ◌-◌, ◌*◌, ◌/◌, ◌%◌, ◌^◌, ◌<◌, ◌≤◌, Bool, true, false, not, if◌then◌else◌, nat_le, ℤ, pos, ◌+ℤ◌, ◌-ℤ◌, List, [], length, map, max, min, unsigned_abs, All, IsTrue}
+use Rattle.std.specs.Prelude.{ℕ, ◌+◌, ◌-◌, ◌*◌, ◌/◌, ◌%◌, ◌^◌, ◌<◌, ◌≤◌, Bool, ◌&&◌, true, false, not, if◌then◌else◌, nat_le, ℤ, pos, ◌+ℤ◌, ◌-ℤ◌, List, [], length, map, max, min, unsigned_abs, All, IsTrue}
 use Rattle.std.specs.List.{flat_map, range_with_len, Contains}
 use Rattle.std.specs.List.Sorted.{IsNonDecreasingBy, IsPermutation}
 use Rattle.space3.specs.declared.boxes.BoundingBox.{BoundingBox}
@@ -11,6 +11,7 @@ use Rattle.box_grid.specs.declared.limits.TheConstants.{AXIS_LIMIT, LEAST_SIDE, 
 use Rattle.box_grid.specs.declared.cells.Cell.{Cell}
 use Rattle.box_grid.specs.declared.cells.Cells.{Cells}
 use Rattle.box_grid.specs.declared.entries.Entry.{Entry}
+use Rattle.box_grid.specs.declared.search.Query.{Query}
 use Rattle.box_grid.specs.declared.sizes.Level.{Level}
 use Rattle.box_grid.specs.Near.{LiesInTheBox, box_at}
 
@@ -129,14 +130,22 @@ pub record IsGrid (boxes : List BoundingBox) (side : ℕ) (entries : List Entry)
   pub common : IsLevel (level_of false side side) boxes entries
   pub great : IsLevel (level_of true side great_side) boxes great_entries
 
--- the box at a position has a common point with `reached`
-abbrev pub touches : BoundingBox → List BoundingBox → ℕ → Bool
-touches reached boxes i = are_within 0 reached (box_at boxes i)
+-- a position from that of a query on, whose box has a common point with the one that is reached
+abbrev pub touches : Query → List BoundingBox → ℕ → Bool
+touches query boxes i = nat_le query.from i && are_within 0 query.reached (box_at boxes i)
 
 -- a number below n that passes a test
 pub record PassesBelow (n : ℕ) (p : ℕ → Bool) (i : ℕ) : Type 0 where
   pub below : i < n
   pub passes : IsTrue (p i)
+
+-- Items that were there, those that pass a test of the entries with keys from `first` on and below `past`, and perhaps
+-- others of the entries that pass.
+pub record HasRun (p : ℕ → Bool) (entries : List Entry) (first past : ℕ) (old found : List ℕ) : Type 0 where
+  pub kept : (x : ℕ) → Contains old x → Contains found x
+  pub has : (e : Entry) → Contains entries e → first ≤ e.key → e.key < past → IsTrue (p e.item) → Contains found e.item
+  pub only : (n : ℕ) → All (λ (e : Entry). e.item < n) entries → All (PassesBelow n p) old →
+      All (PassesBelow n p) found
 
 -- Items that were there, those that pass a test of the entries in the first so many rows of these cells, and perhaps
 -- others of the entries that pass.

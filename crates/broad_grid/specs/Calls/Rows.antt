@@ -1,19 +1,20 @@
 -- The near pairs by their first parts.
-use Rattle.std.specs.Prelude.{ℕ, ◌≡◌, ◌<◌, ◌^◌, List, All, length, map, filter}
+use Rattle.std.specs.Prelude.{ℕ, ◌≡◌, ◌+◌, ◌<◌, ◌^◌, List, All, length, map, filter}
 use Rattle.std.specs.List.{flat_map, range_with_len}
 use Rattle.space3.specs.declared.boxes.BoundingBox.{BoundingBox}
 use Rattle.boundary.specs.declared.pairs.Pair.{Pair}
 use Rattle.boundary.specs.declared.pairs.PairKind.{PairKind}
+use Rattle.boundary.specs.declared.pairs.PairKind.TheVariants.{VE, VT, EE, ET}
 use Rattle.boundary.specs.Pairs.{counts, first_parts, pair_of, second_parts}
 use Rattle.boundary.specs.Surface.{SurfaceLists}
 use Rattle.box_grid.specs.Near.{LiesInTheBox, box_at, near_positions}
-use Rattle.broad_grid.specs.declared.boxes.PartBoxes.{PartBoxes}
 use Rattle.broad_grid.specs.declared.near.FirstPart.{FirstPart}
-use Rattle.broad_grid.specs.Calls.Boxes.{first_boxes, second_boxes}
+use Rattle.broad_grid.specs.Calls.Boxes.{BoxesOfParts, first_boxes, second_boxes}
 
 -- a first part of its kind, with a box in the box of places
 pub record IsFirst (s : SurfaceLists) (first : FirstPart) : Type 0 where
   pub there : first.a < length (first_parts s first.kind)
+  pub few : first.a + 1 < 2 ^ 32
   pub in_box : LiesInTheBox first.around
 
 -- one box for each first part of a kind
@@ -23,7 +24,7 @@ pub record AreFirst (s : SurfaceLists) (kind : PairKind) (firsts : List Bounding
   pub in_box : All LiesInTheBox firsts
 
 -- one box for each part of each kind
-pub record HasAsMany (s : SurfaceLists) (boxes : PartBoxes) : Type 0 where
+pub record HasAsMany (s : SurfaceLists) (boxes : BoxesOfParts) : Type 0 where
   pub firsts : (kind : PairKind) → AreFirst s kind (first_boxes boxes kind)
   pub seconds : (kind : PairKind) → length (second_boxes boxes kind) ≡ length (second_parts s kind)
 
@@ -32,9 +33,17 @@ abbrev pub pairs_with : SurfaceLists → FirstPart → List ℕ → List Pair
 pairs_with s first seconds =
     map (pair_of first.kind first.a) (filter (λ b. counts s (pair_of first.kind first.a b)) seconds)
 
+-- below this position no second part counts with a first one
+abbrev pub least_second : PairKind → ℕ → ℕ
+least_second VE a = 0
+least_second VT a = 0
+least_second EE a = a + 1
+least_second ET a = 0
+
 -- the near pairs of a first part
 abbrev pub near_row : ℕ → SurfaceLists → FirstPart → List BoundingBox → List Pair
-near_row reach s first boxes = pairs_with s first (near_positions reach first.around boxes)
+near_row reach s first boxes =
+    pairs_with s first (near_positions reach first.around (least_second first.kind first.a) boxes)
 
 -- the first part of a kind at a position
 abbrev pub first_part : PairKind → List BoundingBox → ℕ → FirstPart
@@ -46,6 +55,6 @@ near_rows reach s kind firsts seconds =
     flat_map (λ a. near_row reach s (first_part kind firsts a) seconds) (range_with_len 0 (length firsts))
 
 -- the near pairs of some kinds
-abbrev pub near_rows_of_kinds : ℕ → SurfaceLists → PartBoxes → List PairKind → List Pair
+abbrev pub near_rows_of_kinds : ℕ → SurfaceLists → BoxesOfParts → List PairKind → List Pair
 near_rows_of_kinds reach s boxes kinds =
     flat_map (λ kind. near_rows reach s kind (first_boxes boxes kind) (second_boxes boxes kind)) kinds

@@ -6,7 +6,7 @@ use Rattle.box_grid.proofs.search.append_all_touching.Goals as goal
 pub loop-position-preserved : goal.loop-position-preserved
 loop-position-preserved c = record {
   found =
-      append_filtered (touches c.args.reached.now c.args.boxes.now) c.loop-position.position c.args.found.now.items c.loop-position.found.items c.append_where.new.found.items c.do_touch-wanted.result
-      c.loop-position.invariant.found c.in_ok-append_where.ensures.items c.do_touch-wanted.ensures;
+      append_filtered (touches c.args.query.now c.args.boxes.now) c.loop-position.position c.args.found.now.items c.loop-position.found.items c.append_where.new.found.items c.is_wanted-wanted.result
+      c.loop-position.invariant.found c.in_ok-append_where.ensures.items c.is_wanted-wanted.ensures;
   no_more = omega (arith, c.loop-position.invariant.no_more, c.in_ok-append_where.ensures.one);
 }

@@ -4,6 +4,6 @@ use Rattle.box_grid.proofs.search.append_touching_over.Given as goal
 
 abbrev pub invariant-loop-row : goal.invariant-loop-row
 invariant-loop-row l = record {
-  rows : HasRows (touches l.reached l.boxes) l.entries l.cells l.row l.initial.found.items l.found.items;
+  rows : HasRows (touches l.query l.boxes) l.entries l.cells l.row l.initial.found.items l.found.items;
   tested : length l.found.items ≤ length l.initial.found.items + l.tested;
 }

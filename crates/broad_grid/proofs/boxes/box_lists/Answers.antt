@@ -1,11 +1,9 @@
-use Rattle.std.proofs.Common.{ℕ, ◌<◌, List, length, refl, inl, ◌∙◌, ◌∷◌, [], ap, arith, map, sym, subst}
-use Rattle.std.specs.Prelude.{All}
-use Rattle.box_grid.specs.Near.{LiesInTheBox}
+use Rattle.std.proofs.Common.{ℕ, ◌<◌, List, length, refl, inl, ◌∙◌, ◌∷◌, [], ap, arith, map, subst}
 use Rattle.broad_grid.specs.PartBoxes.{swept_box}
 use Rattle.boundary.specs.declared.pairs.PairKind.TheVariants.{VT, EE}
 use Rattle.boundary.proofs.SurfaceParts.{first_is_edge, second_is_triangle}
 use Rattle.broad_grid.proofs.PlacedParts.{parts_placed}
-use Rattle.broad_grid.proofs.boxes.part_boxes.Goals as goal
+use Rattle.broad_grid.proofs.boxes.box_lists.Goals as goal
 
 pub boxes_of_parts-requires : goal.boxes_of_parts-requires
 boxes_of_parts-requires c =
@@ -29,17 +27,13 @@ boxes_of_parts-requires-2 c =
 
 pub returns : goal.returns
 returns c =
-    let x0 = c.args.x0.now in
-    let x1 = c.args.x1.now in
+    let sweep = swept_box c.args.x0.now c.args.x1.now in
     record {
       lists = c.vertices.ensures.lists;
-      vertices =
-          c.in_ok-vertices.ensures.boxes ∙ ap (map (λ vertex. swept_box x0 x1 (vertex ∷ []))) c.vertices.ensures.vertices;
-      edges = c.in_ok-of_boxes.ensures ∙ c.in_ok-edges.ensures.boxes ∙ ap (map (swept_box x0 x1)) c.edges.ensures.edges;
-      triangles =
-          c.in_ok-of_boxes-2.ensures
-          ∙ c.in_ok-triangles.ensures.boxes
-          ∙ ap (map (swept_box x0 x1)) c.triangles.ensures.triangles;
+      vertices = c.in_ok-vertices.ensures.boxes ∙ ap (map (λ vertex. sweep (vertex ∷ []))) c.vertices.ensures.vertices;
+      edges = c.in_ok-edges.ensures.boxes ∙ ap (map sweep) c.edges.ensures.edges;
+      triangles = c.in_ok-triangles.ensures.boxes ∙ ap (map sweep) c.triangles.ensures.triangles;
       vertices_in_box = c.in_ok-vertices.ensures.in_box;
-      edges_in_box = subst (All LiesInTheBox) (sym c.in_ok-of_boxes.ensures) c.in_ok-edges.ensures.in_box;
+      edges_in_box = c.in_ok-edges.ensures.in_box;
+      triangles_in_box = c.in_ok-triangles.ensures.in_box;
     }
