@@ -23,7 +23,6 @@ row_of_cell c x y xl xh yl yh =
 
 -- a cell farther along its row
 pub key_along_row : (x y z k : ℕ) → key_of x y z + k ≡ key_of x y (z + k)
-unfolding key_of
 key_along_row x y z k = omega arith
 
 -- each of the cells has its entry

@@ -21,7 +21,7 @@ use Rattle.box_grid.proofs.CellRows.{entry_of_cell, key_along_row, row_of_cell}
 use Rattle.box_grid.proofs.WideBoxes.{by_the_box}
 
 -- a division by a side doesn't turn the order
-div_keeps_order : (a b side : ℕ) → 0 < side → a ≤ b → a / side ≤ b / side
+pub div_keeps_order : (a b side : ℕ) → 0 < side → a ≤ b → a / side ≤ b / side
 div_keeps_order a b side s h = le-div (a / side) b side s (omega (arith, div-add-mod' a side))
 
 cell_keeps_order : (side : ℕ) (u v : ℤ) → 0 < side → pos 0 ≤ℤ (u +ℤ pos AXIS_LIMIT) → u ≤ℤ v → cell_of side u ≤ cell_of side v

@@ -5,4 +5,5 @@ pub mod EntryParts
 pub mod NearPositions
 pub mod SameFilter
 pub mod Sides
+pub mod SortedNumbers
 pub mod WideBoxes

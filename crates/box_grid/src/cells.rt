@@ -4,9 +4,9 @@ ghost use Rattle.space3.specs.declared.places.TheConstants.{BOX_LIMIT};
 ghost use Rattle.space3.specs.Vectors.{AtMost, Within};
 ghost use Rattle.space3.specs.Box.{IsInTheBox};
 ghost use Rattle.box_grid.specs.Near.{LiesInTheBox};
-ghost use Rattle.box_grid.specs.Calls.Cells.{AreCells, IsCell, LiesByTheBox, cell_at, cell_of, cells_between, cells_over, key_of, lowered, raised, row_of, widened};
+ghost use Rattle.box_grid.specs.Calls.Cells.{AreCells, IsCell, LiesByTheBox, cell_at, cell_of, cells_between, cells_over, lowered, raised, row_key, row_of, widened};
 
-use crate::limits::{AXIS_LIMIT, LEAST_SIDE, REACH_LIMIT};
+use crate::limits::{AXIS_LIMIT, LEAST_SIDE, REACH_LIMIT, ROW_KEYS, ROW_STRIDE};
 use space3::{BoundingBox, V3};
 
 /// A cell of the grid, by its position along each axis.
@@ -60,17 +60,14 @@ pub(crate) fn row_count(cells: &Cells) -> u64
 }
 
 /// The key of the first cell of a row.
-pub(crate) fn row_of(cells: &Cells, row: u64) -> u64
+pub(crate) fn row_of(cells: &Cells, row: u64) -> u32
     requires cells { AreCells cells.now }
     requires row { row < cells.now.width * cells.now.depth }
     ensures value { result ≡ row_of cells.now row }
-    ensures bound { result < 2 ^ 63 }
+    ensures bound { result + cells.now.height < 2 ^ 32 }
 {
-    key_of(
-        cells.x + row / cells.depth,
-        cells.y + row % cells.depth,
-        cells.z,
-    )
+    let key = row_key(cells.x + row / cells.depth, cells.y + row % cells.depth);
+    (key + cells.z) as u32
 }
 
 // The cells from one of two cells to the other, along each axis from the lesser to the greater position.
@@ -123,16 +120,16 @@ fn cell_of(side: u64, v: i64) -> u64
     (v + AXIS_LIMIT as i64) as u64 / side
 }
 
-// A cell's key: each cell has one of its own, and the next cell along the third axis the next key.
-#[tactic(auto, unfolding(crate::specs::Calls::Cells::key_of))]
-fn key_of(x: u64, y: u64, z: u64) -> u64
+// The number of a row, to which a cell's position along the third axis is added for its key. Cells of rows far apart may
+// have the same key.
+#[tactic(auto, unfolding(crate::specs::Calls::Cells::row_key))]
+fn row_key(x: u64, y: u64) -> u64
     requires x { x < AXIS_LIMIT }
     requires y { y < AXIS_LIMIT }
-    requires z { z < AXIS_LIMIT }
-    ensures value { result ≡ key_of x y z }
-    ensures bound { result < 2 ^ 63 }
+    ensures value { result ≡ row_key x y }
+    ensures bound { result < ROW_KEYS }
 {
-    (x * AXIS_LIMIT as u64 + y) * AXIS_LIMIT as u64 + z
+    (x * u64::from(ROW_STRIDE) + y) * u64::from(ROW_STRIDE) % u64::from(ROW_KEYS)
 }
 
 fn lowered(corner: V3, reach: u32) -> V3

@@ -1,13 +1,13 @@
 //! Entries of the cells that boxes cover, sorted by the cells' keys.
-ghost use Rattle.std.specs.Prelude.{◌≡◌, ◌^◌, ◌<◌, ◌≤◌, ◌++◌, IfOk, length, All};
-ghost use Rattle.std.specs.List.Sorted.{IsNonDecreasingBy, IsPermutation};
+ghost use Rattle.std.specs.Prelude.{◌≡◌, ◌+◌, ◌^◌, ◌<◌, ◌≤◌, ◌++◌, IfOk, length, map, All};
 ghost use Rattle.space3.specs.declared.boxes.BoundingBox.{BoundingBox};
+ghost use Rattle.box_grid.specs.declared.entries.Entry.{Entry};
 ghost use Rattle.box_grid.specs.declared.sizes.Level.{Level};
 ghost use Rattle.box_grid.specs.Near.{LiesInTheBox};
-ghost use Rattle.box_grid.specs.Calls.Cells.{AreCells, IsLevel, entries_in, entries_of, entries_of_boxes, run_of};
+ghost use Rattle.box_grid.specs.Calls.Cells.{AreCells, IsLevel, IsSortedForm, entries_in, entries_of, entries_of_boxes, entry_of, number_of, run_of};
 
 use crate::cells::{Cells, cells_over, row_count, row_of};
-use crate::limits::{AXIS_LIMIT, LEAST_SIDE};
+use crate::limits::LEAST_SIDE;
 use crate::sizes::{Level, has};
 use space3::BoundingBox;
 use std::alloc::{AllocError, Global};
@@ -15,7 +15,7 @@ use std::alloc::{AllocError, Global};
 /// A box, by its position, that covers the cell with this key.
 #[derive(Clone, Copy)]
 pub(crate) struct Entry {
-    pub key: u64,
+    pub key: u32,
     pub item: u32,
 }
 
@@ -30,9 +30,8 @@ pub(crate) fn entries_of_boxes(
     requires in_box { All LiesInTheBox boxes.now }
     ensures { IfOk result (λ entries. IsLevel level boxes.now entries.items) }
 {
-    let mut entries = unsorted_entries(alloc, level, boxes)?;
-    sort_by_key(&mut entries);
-    Ok(entries)
+    let entries = unsorted_entries(alloc, level, boxes)?;
+    sorted_by_key(alloc, &entries)
 }
 
 // An entry for each cell of each box of the level.
@@ -78,15 +77,14 @@ fn append_cells(entries: &mut Vec<Entry>, item: u32, cells: &Cells) -> Result<()
         entries.old.items ++ entries_of cells.now item) }
 {
     for row in 0..row_count(cells) {
-        append_run(entries, item, row_of(cells, row), cells.height)?;
+        append_run(entries, item, row_of(cells, row), cells.height as u32)?;
     }
     Ok(())
 }
 
 // Appends an entry for each of so many keys from the first on.
-fn append_run(entries: &mut Vec<Entry>, item: u32, first: u64, many: u64) -> Result<(), AllocError>
-    requires first { first < 2 ^ 63 }
-    requires many { many ≤ AXIS_LIMIT }
+fn append_run(entries: &mut Vec<Entry>, item: u32, first: u32, many: u32) -> Result<(), AllocError>
+    requires { first + many < 2 ^ 32 }
     ensures { IfOk result (λ _. entries.new.items ≡ entries.old.items ++ run_of item first many) }
 {
     for k in 0..many {
@@ -98,9 +96,48 @@ fn append_run(entries: &mut Vec<Entry>, item: u32, first: u64, many: u64) -> Res
     Ok(())
 }
 
-fn sort_by_key(entries: &mut Vec<Entry>)
-    ensures sorted { IsNonDecreasingBy (λ e. e.key) entries.new.items }
-    ensures moved { IsPermutation entries.old.items entries.new.items }
+// The entries sorted by their keys. They are sorted as numbers, which costs less than to look up the key of each.
+fn sorted_by_key(alloc: Global, entries: &[Entry]) -> Result<Vec<Entry>, AllocError>
+    requires { All (λ (e : Entry). e.item < 2 ^ 32) entries.now }
+    ensures { IfOk result (λ sorted. IsSortedForm entries.now sorted.items) }
 {
-    entries.sort_unstable_by_key(|e| e.key);
+    let mut numbers = numbers_of(alloc, entries)?;
+    numbers.sort_unstable();
+    entries_of_numbers(alloc, &numbers)
+}
+
+fn numbers_of(alloc: Global, entries: &[Entry]) -> Result<Vec<u64>, AllocError>
+    ensures { IfOk result (λ numbers. numbers.items ≡ map number_of entries.now) }
+{
+    let mut numbers = Vec::with_capacity(alloc, entries.len())?;
+    for entry in entries {
+        numbers.push(number_of(*entry))?;
+    }
+    Ok(numbers)
+}
+
+fn entries_of_numbers(alloc: Global, numbers: &[u64]) -> Result<Vec<Entry>, AllocError>
+    ensures { IfOk result (λ entries. entries.items ≡ map entry_of numbers.now) }
+{
+    let mut entries = Vec::with_capacity(alloc, numbers.len())?;
+    for number in numbers {
+        entries.push(entry_of(*number))?;
+    }
+    Ok(entries)
+}
+
+// An entry as one number, its key before its item.
+fn number_of(entry: Entry) -> u64
+    ensures { result ≡ number_of entry }
+{
+    u64::from(entry.key) * 4_294_967_296 + u64::from(entry.item)
+}
+
+fn entry_of(number: u64) -> Entry
+    ensures { result ≡ entry_of number }
+{
+    Entry {
+        key: (number / 4_294_967_296) as u32,
+        item: (number % 4_294_967_296) as u32,
+    }
 }

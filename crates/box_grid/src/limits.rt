@@ -11,6 +11,14 @@ pub(crate) const AXIS_LIMIT: u32 = 2_097_152;
 /// The least side of a cell. With it the positions of cells stay below [`AXIS_LIMIT`].
 pub(crate) const LEAST_SIDE: u64 = 2;
 
+/// The keys of rows of cells are below this, 2^31, and a cell's position along the third axis is added to them. So all keys
+/// are below 2^32.
+pub(crate) const ROW_KEYS: u32 = 2_147_483_648;
+
+/// How far apart the keys of rows next to each other are, about the third root of [`ROW_KEYS`]: where the cells with
+/// boxes are fewer than this along each axis, no two of them have the same key. What is found doesn't depend on it.
+pub(crate) const ROW_STRIDE: u32 = 1289;
+
 /// The longest side of a box is less than this many sides of its level's cells. So it covers at most 9 cells along an
 /// axis, and great boxes make no flood of entries.
 pub(crate) const MOST_SPLIT: u64 = 8;

@@ -8,7 +8,7 @@ ghost use Rattle.box_grid.specs.Calls.Cells.{AreCells, HasAllRows, HasRun, LiesB
 
 use crate::cells::{Cells, cells_over, row_count, row_of};
 use crate::entries::Entry;
-use crate::limits::{AXIS_LIMIT, LEAST_SIDE};
+use crate::limits::LEAST_SIDE;
 use space3::{BoundingBox, V3};
 use std::alloc::AllocError;
 
@@ -63,7 +63,14 @@ pub(crate) fn append_touching_over(
     let mut tested = 0u64;
     for row in 0..row_count(cells) {
         let first = row_of(cells, row);
-        let more = append_touching_of_run(entries, first, cells.height, boxes, query, found)?;
+        let more = append_touching_of_run(
+            entries,
+            first,
+            cells.height as u32,
+            boxes,
+            query,
+            found,
+        )?;
         tested = tested.saturating_add(more as u64);
     }
     Ok(tested)
@@ -102,15 +109,14 @@ pub(crate) fn keep_ascending(items: &mut Vec<u32>)
 // Appends the same of the entries whose keys are `first` or one of the next, `many` in all.
 fn append_touching_of_run(
     entries: &[Entry],
-    first: u64,
-    many: u64,
+    first: u32,
+    many: u32,
     boxes: &[BoundingBox],
     query: &Query,
     found: &mut Vec<u32>,
 ) -> Result<usize, AllocError>
     requires sorted { IsNonDecreasingBy (λ (e : Entry). e.key) entries.now }
-    requires first { first < 2 ^ 63 }
-    requires many { many ≤ AXIS_LIMIT }
+    requires keys { first + many < 2 ^ 32 }
     requires there { All (λ (e : Entry). e.item < length boxes.now) entries.now }
     ensures run { IfOk result (λ _. HasRun (touches query.now boxes.now) entries.now
         first (first + many) found.old.items found.new.items) }
@@ -123,7 +129,7 @@ fn append_touching_of_run(
 }
 
 // How many entries have keys below this one: those at the front.
-fn count_below(entries: &[Entry], key: u64) -> usize
+fn count_below(entries: &[Entry], key: u32) -> usize
     requires { IsNonDecreasingBy (λ (e : Entry). e.key) entries.now }
     ensures bound { result ≤ length entries.now }
     ensures below { (k : ℕ) (d : Entry) → k < result → (slice_index_or entries.now k d).key < key }
@@ -136,7 +142,7 @@ fn count_below(entries: &[Entry], key: u64) -> usize
 // Appends the same of the entries with keys below `past`, those at the front. Answers how many these are.
 fn append_touching_below(
     entries: &[Entry],
-    past: u64,
+    past: u32,
     boxes: &[BoundingBox],
     query: &Query,
     found: &mut Vec<u32>,

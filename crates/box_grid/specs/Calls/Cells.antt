@@ -7,7 +7,7 @@ use Rattle.space3.specs.declared.vectors.V3.{V3}
 use Rattle.space3.specs.Boxes.{are_within}
 use Rattle.space3.specs.declared.places.TheConstants.{BOX_LIMIT}
 use Rattle.space3.specs.Vectors.{Within, vector}
-use Rattle.box_grid.specs.declared.limits.TheConstants.{AXIS_LIMIT, LEAST_SIDE, MOST_SPLIT, REACH_LIMIT}
+use Rattle.box_grid.specs.declared.limits.TheConstants.{AXIS_LIMIT, LEAST_SIDE, MOST_SPLIT, REACH_LIMIT, ROW_KEYS, ROW_STRIDE}
 use Rattle.box_grid.specs.declared.cells.Cell.{Cell}
 use Rattle.box_grid.specs.declared.cells.Cells.{Cells}
 use Rattle.box_grid.specs.declared.entries.Entry.{Entry}
@@ -19,9 +19,13 @@ use Rattle.box_grid.specs.Near.{LiesInTheBox, box_at}
 unfoldable pub cell_of : ℕ → ℤ → ℕ
 cell_of side v = unsigned_abs (v +ℤ pos AXIS_LIMIT) / side
 
--- a number for each cell, one more for the next cell along the third axis
-unfoldable pub key_of : ℕ → ℕ → ℕ → ℕ
-key_of x y z = (x * AXIS_LIMIT + y) * AXIS_LIMIT + z
+-- a number for each row of cells along the third axis
+unfoldable pub row_key : ℕ → ℕ → ℕ
+row_key x y = (x * ROW_STRIDE + y) * ROW_STRIDE % ROW_KEYS
+
+-- a number for each cell, one more for the next cell along the third axis; cells of two rows may have the same
+abbrev pub key_of : ℕ → ℕ → ℕ → ℕ
+key_of x y z = row_key x y + z
 
 -- the cell of a place
 abbrev pub cell_at : ℕ → V3 → Cell
@@ -112,6 +116,18 @@ entries_in level b item = if has level b then entries_of (cells_over level.side 
 abbrev pub entries_of_boxes : Level → List BoundingBox → List Entry
 entries_of_boxes level boxes =
     flat_map (λ i. entries_in level (box_at boxes i) i) (range_with_len 0 (length boxes))
+
+-- an entry as one number, its key before its item
+abbrev pub number_of : Entry → ℕ
+number_of e = e.key * 4294967296 + e.item
+
+abbrev pub entry_of : ℕ → Entry
+entry_of n = entry (n / 4294967296) (n % 4294967296)
+
+-- the same entries by keys
+pub record IsSortedForm (entries sorted : List Entry) : Type 0 where
+  pub rises : IsNonDecreasingBy (λ (e : Entry). e.key) sorted
+  pub moved : IsPermutation entries sorted
 
 -- the entries of a level's boxes by keys
 pub record IsLevel (level : Level) (boxes : List BoundingBox) (entries : List Entry) : Type 0 where
