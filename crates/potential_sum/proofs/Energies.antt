@@ -1,9 +1,11 @@
 -- Sums of energies.
-use Rattle.std.proofs.Common.{◌≡◌, ◌∙◌, ℕ, ◌+◌, ◌*◌, ◌^◌, ◌≤◌, ◌<◌, ℤ, pos, ◌+ℤ◌, ◌*ℤ◌, List, [], ◌∷◌, ◌++◌, length, map, ap, sym, arith, unsigned_abs, to_z, of_z, neg_ℤ, true, false, FitsSigned}
+use Rattle.std.proofs.Common.{◌≡◌, ◌∙◌, ℕ, ◌+◌, ◌*◌, ◌^◌, ◌≤◌, ◌<◌, ℤ, pos, ◌+ℤ◌, ◌*ℤ◌, List, [], ◌∷◌, ◌++◌, length, map, refl, ap, sym, arith, unsigned_abs, to_z, of_z, neg_ℤ, true, false, FitsSigned}
 use Rattle.std.specs.Prelude.{Bool, nat_lt, if◌then◌else◌}
 use Rattle.std.specs.Int.{w128}
 use Rattle.std.specs.List.{range_with_len}
+use Rattle.std.specs.List.Sorted.{IsPermutation}
 use Rattle.std.proofs.lemmas.List.{map-append}
+use Rattle.std.proofs.lemmas.List.Sorted.{IsPermutation-map}
 use Rattle.std.proofs.lemmas.Simd.{map-map}
 use Rattle.std.proofs.lemmas.Int.{ints, to_z-of_z, fits_signed_from_abs}
 use Rattle.whole_laws.proofs.Order.{size_sum}
@@ -42,6 +44,7 @@ use Rattle.potential_sum.specs.Contributions.{Contribution, barrier_contribution
 use Rattle.potential_sum.specs.Contacts.{close_parts}
 use Rattle.potential_sum.specs.Potential.{potential}
 use Rattle.potential_sum.specs.Terms.{FrameTerms}
+use Rattle.potential_sum.proofs.OtherOrders.{total-permutation}
 
 -- a sum of i numbers of at most 2^90 each, and one such number more
 pub record IsAdded (before after : List ℤ) (i : ℕ) (a r : ℤ) : Type 0 where
@@ -120,7 +123,7 @@ energies-map f g xs ys e =
     ap total (sym (map-map (λ y. (f y).energy) g xs) ∙ ap (map (λ y. (f y).energy)) e ∙ sym (map-map (λ (part : Contribution). part.energy) f ys))
 
 -- the potential, from what is kept and from the pairs that were found
-pub potential-kept : (s : Setup) (frame : FrameTerms) (places : List V3) (bodies : List Body) (pairs : List Pair) (contacts : List Contact) → length places ≡ length s.mesh.numbers → map elastic_in bodies ≡ elastic_tets s →
+pub potential-kept : (s : Setup) (frame : FrameTerms) (places : List V3) (bodies : List Body) (pairs : List Pair) (contacts : List Contact) → length places ≡ length s.mesh.numbers → IsPermutation (elastic_tets s) (map elastic_in bodies) →
     pairs ≡ close_pairs_of (unsigned_abs s.numbers.dhat) s.surface places → map lagged_in contacts ≡ frame.contacts →
     ((total (map (energy_at s.mass frame.targets places) (range_with_len 0 (length places))) +ℤ total (map (λ body. (elastic_contribution places (elastic_in body)).energy) bodies)) +ℤ total (map (λ pair. (barrier_at s places pair).energy) pairs))
     +ℤ total (map (λ contact. (friction_at s.numbers places contact).energy) contacts) ≡ potential s frame places
@@ -136,7 +139,10 @@ potential-kept s frame places bodies pairs contacts e kept found lagged =
     sum parts = total (map energy parts)
 
     of_tets : total (map (λ body. (elastic_contribution places (elastic_in body)).energy) bodies) ≡ sum (map (elastic_contribution places) (elastic_tets s))
-    of_tets = energies-map (elastic_contribution places) elastic_in bodies (elastic_tets s) kept
+    of_tets =
+        energies-map (elastic_contribution places) elastic_in bodies (map elastic_in bodies) refl
+        ∙ total-permutation (map energy (map (elastic_contribution places) (elastic_tets s))) (map energy (map (elastic_contribution places) (map elastic_in bodies)))
+        (IsPermutation-map energy _ _ (IsPermutation-map (elastic_contribution places) (elastic_tets s) (map elastic_in bodies) kept))
 
     of_pairs : total (map (λ pair. (barrier_at s places pair).energy) pairs) ≡ sum (map (barrier_contribution s.numbers places) (close_parts s places))
     of_pairs = energies-map (barrier_contribution s.numbers places) (part_pair s.surface) pairs (close_parts s places) (ap (map (part_pair s.surface)) found)

@@ -1,6 +1,8 @@
 -- The matrix of a frame from the sums of blocks.
 use Rattle.std.proofs.Common.{◌≡◌, ◌∙◌, ℕ, ℤ, pos, List, ◌++◌, length, map, get_or, ap, sym, append_assoc, unsigned_abs}
 use Rattle.std.specs.List.{range_with_len}
+use Rattle.std.specs.List.Sorted.{IsPermutation}
+use Rattle.std.proofs.lemmas.List.Sorted.{IsPermutation-map}
 use Rattle.std.proofs.lemmas.Simd.{map-map}
 use Rattle.space3.specs.declared.vectors.V3.{V3}
 use Rattle.boundary.specs.declared.pairs.Pair.{Pair}
@@ -16,10 +18,11 @@ use Rattle.potential_sum.specs.Calls.Friction.{friction_at}
 use Rattle.potential_sum.specs.Calls.Inertia.{part_at}
 use Rattle.potential_sum.specs.Calls.Kept.{elastic_in}
 use Rattle.potential_sum.specs.Calls.Stiffness.{at_pair, inertia_table, stiffness_of, sum_of_tables}
-use Rattle.potential_sum.specs.Contributions.{Contribution, elastic_contribution}
+use Rattle.potential_sum.specs.Contributions.{Contribution, contributions, elastic_contribution}
 use Rattle.potential_sum.specs.Matrix.{block_total, stiffness, stiffness_at}
 use Rattle.potential_sum.specs.Terms.{FrameTerms}
 use Rattle.potential_sum.proofs.Gradients.{contributions-kept}
+use Rattle.potential_sum.proofs.OtherOrders.{block_total-permutation}
 use Rattle.potential_sum.proofs.Stiffness.{none_right, stiffness_of-append}
 
 -- what inertia adds, as contributions
@@ -31,8 +34,13 @@ inertia_stiffness masses targets x n = λ t. λ row column. each row column t
         (λ t. block_total (map (λ node. sym (none_right (at_pair node node (inertia_block (get_or masses node (pos 0))) row column)) t) (range_with_len 0 n)))
         ∙ ap block_total (sym (map-map (stiffness_at row column) (part_at masses targets x) (range_with_len 0 n)))
 
+-- the sums don't depend on the order of contributions
+stiffness_of-permutation : (xs ys : List Contribution) → IsPermutation xs ys → stiffness_of ys ≡ stiffness_of xs
+stiffness_of-permutation xs ys moved = λ i. λ row column.
+    block_total-permutation (map (stiffness_at row column) xs) (map (stiffness_at row column) ys) (IsPermutation-map (stiffness_at row column) xs ys moved) i
+
 -- the sums of all contributions, from what is kept and from the pairs that were found
-pub stiffness-kept : (s : Setup) (frame : FrameTerms) (x : List V3) (bodies : List Body) (pairs : List Pair) (contacts : List Contact) → length x ≡ length s.mesh.numbers → map elastic_in bodies ≡ elastic_tets s →
+pub stiffness-kept : (s : Setup) (frame : FrameTerms) (x : List V3) (bodies : List Body) (pairs : List Pair) (contacts : List Contact) → length x ≡ length s.mesh.numbers → IsPermutation (elastic_tets s) (map elastic_in bodies) →
     pairs ≡ close_pairs_of (unsigned_abs s.numbers.dhat) s.surface x → map lagged_in contacts ≡ frame.contacts →
     sum_of_tables (inertia_table s.mass (length x)) (stiffness_of (map (λ body. elastic_contribution x (elastic_in body)) bodies ++ map (barrier_at s x) pairs ++ map (friction_at s.numbers x) contacts)) ≡ stiffness s frame x
 stiffness-kept s frame x bodies pairs contacts e kept found lagged =
@@ -42,4 +50,5 @@ stiffness-kept s frame x bodies pairs contacts e kept found lagged =
     let rubbing : List Contribution = map (friction_at s.numbers x) contacts in
     ap (λ t. sum_of_tables t (stiffness_of (tets ++ near ++ rubbing))) (inertia_stiffness s.mass frame.targets x (length x))
     ∙ sym (stiffness_of-append nodes (tets ++ near ++ rubbing))
-    ∙ ap stiffness_of (sym (append_assoc nodes (tets ++ near) rubbing) ∙ ap (λ parts. parts ++ rubbing) (sym (append_assoc nodes tets near)) ∙ contributions-kept s frame x bodies pairs contacts e kept found lagged)
+    ∙ ap stiffness_of (sym (append_assoc nodes (tets ++ near) rubbing) ∙ ap (λ parts. parts ++ rubbing) (sym (append_assoc nodes tets near)))
+    ∙ stiffness_of-permutation (contributions s frame x) _ (contributions-kept s frame x bodies pairs contacts e kept found lagged)

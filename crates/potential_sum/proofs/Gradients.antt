@@ -2,9 +2,11 @@
 use Rattle.std.proofs.Common.{◌≡◌, ◌∙◌, ℕ, suc, ◌+◌, ◌-◌, ◌*◌, ◌<◌, ◌≤◌, ◌^◌, ℤ, true, false, List, [], ◌∷◌, ◌++◌, length, map, get_or, refl, ap, sym, subst, arith, lit≤, length-append, unsigned_abs}
 use Rattle.std.specs.Prelude.{◌==◌, All, Bool, if◌then◌else◌, slice_index_or, zip}
 use Rattle.std.specs.List.{flat_map, range_with_len}
+use Rattle.std.specs.List.Sorted.{IsPermutation}
 use Rattle.std.proofs.lemmas.List.{length-map, map-append}
 use Rattle.std.proofs.lemmas.List.Elements.{All-nil, All-cons, All-head, All-tail, All-append, All-map}
 use Rattle.std.proofs.lemmas.List.FromFn.{length-range_with_len}
+use Rattle.std.proofs.lemmas.List.Sorted.{IsPermutation-append_left, IsPermutation-append_right, IsPermutation-map}
 use Rattle.std.proofs.lemmas.Simd.{map-map}
 use Rattle.std.proofs.lemmas.Slice.Zip.{length-zip}
 use Rattle.block_rows.proofs.Threes.{get_or-threes, length-threes}
@@ -40,19 +42,40 @@ use Rattle.potential_sum.specs.Upright.{IsUpright}
 use Rattle.potential_sum.proofs.Parts.{All-zip_right, barrier-pulls-weak, elastic-pulls-weak, friction-pulls-weak, inertia-pulls-weak}
 use Rattle.potential_sum.proofs.CloseParts.{close_parts_may_push, few_close_parts}
 use Rattle.potential_sum.proofs.FrameContacts.{may_slide}
+use Rattle.potential_sum.proofs.OtherOrders.{vector_total-permutation}
 use Rattle.potential_sum.proofs.PullSums.{length-node_sums, once-size, vector_total-append}
 
 -- ---- from what is kept, and the pairs that were found
-pub contributions-kept : (s : Setup) (frame : FrameTerms) (x : List V3) (bodies : List Body) (pairs : List Pair) (contacts : List Contact) → length x ≡ length s.mesh.numbers → map elastic_in bodies ≡ elastic_tets s →
+pub contributions-kept : (s : Setup) (frame : FrameTerms) (x : List V3) (bodies : List Body) (pairs : List Pair) (contacts : List Contact) → length x ≡ length s.mesh.numbers → IsPermutation (elastic_tets s) (map elastic_in bodies) →
     pairs ≡ close_pairs_of (unsigned_abs s.numbers.dhat) s.surface x → map lagged_in contacts ≡ frame.contacts →
-    map (part_at s.mass frame.targets x) (range_with_len 0 (length x)) ++ map (λ body. elastic_contribution x (elastic_in body)) bodies ++ map (barrier_at s x) pairs ++ map (friction_at s.numbers x) contacts ≡ contributions s frame x
+    IsPermutation (contributions s frame x)
+    (map (part_at s.mass frame.targets x) (range_with_len 0 (length x)) ++ map (λ body. elastic_contribution x (elastic_in body)) bodies ++ map (barrier_at s x) pairs ++ map (friction_at s.numbers x) contacts)
 contributions-kept s frame x bodies pairs contacts e kept found lagged =
-    λ i. map (inertia_contribution s frame x) (range_with_len 0 (e i)) ++ images (elastic_contribution x) elastic_in bodies (elastic_tets s) kept i
-    ++ images (barrier_contribution s.numbers x) (part_pair s.surface) pairs (close_parts s x) (ap (map (part_pair s.surface)) found) i
-    ++ images (friction_contribution s.numbers x) lagged_in contacts frame.contacts lagged i
+    subst (IsPermutation (contributions s frame x)) (sym same)
+    (IsPermutation-append_left rubbing _ _ (IsPermutation-append_left near _ _
+    (IsPermutation-append_right nodes _ _ (IsPermutation-map (elastic_contribution x) (elastic_tets s) (map elastic_in bodies) kept))))
   where
+    nodes : List Contribution
+    nodes = map (inertia_contribution s frame x) (node_positions s.mesh)
+
+    near : List Contribution
+    near = map (barrier_contribution s.numbers x) (close_parts s x)
+
+    rubbing : List Contribution
+    rubbing = map (friction_contribution s.numbers x) frame.contacts
+
     images : {X Y : Type 0} (f : Y → Contribution) (g : X → Y) (xs : List X) (ys : List Y) → map g xs ≡ ys → map (λ x. f (g x)) xs ≡ map f ys
     images f g xs ys e = sym (map-map f g xs) ∙ ap (map f) e
+
+    same : map (part_at s.mass frame.targets x) (range_with_len 0 (length x)) ++ map (λ body. elastic_contribution x (elastic_in body)) bodies ++ map (barrier_at s x) pairs ++ map (friction_at s.numbers x) contacts
+        ≡ nodes ++ map (elastic_contribution x) (map elastic_in bodies) ++ near ++ rubbing
+    same = λ i. map (inertia_contribution s frame x) (range_with_len 0 (e i)) ++ images (elastic_contribution x) elastic_in bodies (map elastic_in bodies) refl i
+        ++ images (barrier_contribution s.numbers x) (part_pair s.surface) pairs (close_parts s x) (ap (map (part_pair s.surface)) found) i
+        ++ images (friction_contribution s.numbers x) lagged_in contacts frame.contacts lagged i
+
+-- the sums at all nodes don't depend on the order
+pub node_sums-permutation : (n : ℕ) (xs ys : List Contribution) → IsPermutation xs ys → node_sums n ys ≡ node_sums n xs
+node_sums-permutation n xs ys moved = λ i. map (λ node. wide (vector_total-permutation (map (pull_at node) xs) (map (pull_at node) ys) (IsPermutation-map (pull_at node) xs ys moved) i)) (range_with_len 0 n)
 
 pub flat_map_agree : {A : Type 0} (f g : ℕ → List A) (xs : List ℕ) → All (λ x. f x ≡ g x) xs → flat_map f xs ≡ flat_map g xs
 flat_map_agree f g [] h = refl

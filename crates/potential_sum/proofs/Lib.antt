@@ -6,6 +6,7 @@ pub mod Gradients
 pub mod HeldParts
 pub mod KeptTerms
 pub mod Lightness
+pub mod OtherOrders
 pub mod Parts
 pub mod PullSums
 pub mod SmallBlocks

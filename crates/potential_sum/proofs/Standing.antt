@@ -2,7 +2,9 @@
 use Rattle.std.proofs.Common.{◌≡◌, ◌∙◌, ℕ, ◌<◌, ◌≤◌, ◌≤ℤ◌, List, length, map, get_or, sym, ap, subst, arith}
 use Rattle.std.proofs.lemmas.List.{length-map}
 use Rattle.std.specs.Prelude.{All, IsTrue}
+use Rattle.std.specs.List.Sorted.{IsPermutation}
 use Rattle.std.proofs.lemmas.List.Elements.{All-map, All-same}
+use Rattle.std.proofs.lemmas.List.Sorted.{All-permutation, length_permutation}
 use Rattle.list_laws.proofs.Elements.{All-map_back}
 use Rattle.space3.specs.declared.vectors.V3.{V3}
 use Rattle.vec_q.specs.Widths.{AreWithin}
@@ -53,11 +55,11 @@ may_stand s x built pose = All-map (MayStand x) (elastic_of s) s.mesh.tets (λ k
     })
 
 -- what is kept of it may
-pub bodies_may_stand : (s : Setup) (x : List V3) (bodies : List Body) → IsSetup s → IsUpright s x → map elastic_in bodies ≡ elastic_tets s → All (λ body. MayStand x (elastic_in body)) bodies
-bodies_may_stand s x bodies built pose kept = All-map_back (MayStand x) elastic_in bodies (subst (All (MayStand x)) (sym kept) (may_stand s x built pose))
+pub bodies_may_stand : (s : Setup) (x : List V3) (bodies : List Body) → IsSetup s → IsUpright s x → IsPermutation (elastic_tets s) (map elastic_in bodies) → All (λ body. MayStand x (elastic_in body)) bodies
+bodies_may_stand s x bodies built pose kept = All-map_back (MayStand x) elastic_in bodies (All-permutation (MayStand x) (elastic_tets s) (map elastic_in bodies) kept (may_stand s x built pose))
 
 -- no more bodies than a mesh has tetrahedra
-pub few_bodies : (s : Setup) (bodies : List Body) → IsSetup s → map elastic_in bodies ≡ elastic_tets s → length bodies ≤ 65536
+pub few_bodies : (s : Setup) (bodies : List Body) → IsSetup s → IsPermutation (elastic_tets s) (map elastic_in bodies) → length bodies ≤ 65536
 few_bodies s bodies built kept =
-    let e : length bodies ≡ length s.mesh.tets = sym (length-map bodies elastic_in) ∙ ap length kept ∙ length-map s.mesh.tets (elastic_of s) in
+    let e : length bodies ≡ length s.mesh.tets = sym (length-map bodies elastic_in) ∙ length_permutation (elastic_tets s) (map elastic_in bodies) kept ∙ length-map s.mesh.tets (elastic_of s) in
     omega (arith, built.mesh_is_sound.few_tets)

@@ -1,5 +1,6 @@
 -- What the potential of a frame is made of beside its bodies.
 use Rattle.std.specs.Prelude.{◌≡◌, ◌≤◌, List, map, zip, length, unsigned_abs, All}
+use Rattle.std.specs.List.Sorted.{IsPermutation}
 use Rattle.space3.specs.declared.vectors.V3.{V3}
 use Rattle.space3.specs.Vectors.{Within}
 use Rattle.broad_grid.specs.Kept.{IsWhole, KeptPairs}
@@ -39,11 +40,11 @@ pub record AreNearPairs (setup : Setup) (kept : KeptPairs) : Type 0 where
   pub whole : IsWhole setup.surface kept
 
 -- The terms are of this setup: one target per node, none too far; contacts between parts of its surface, not too many;
--- and what is kept is of its tetrahedra and of its near pairs.
+-- and what is kept is of its tetrahedra, in some order, and of its near pairs.
 pub record StandFor (setup : Setup) (terms : KeptTerms) : Type 0 where
   pub each : length terms.frame.targets ≡ length setup.mesh.numbers
   pub near : All (Within FARTHEST_TARGET) terms.frame.targets
   pub contacts : All (IsBetweenParts setup) terms.frame.contacts
   pub few : length terms.frame.contacts ≤ MOST_CLOSE
-  pub elastic : terms.elastic ≡ elastic_tets setup
+  pub elastic : IsPermutation (elastic_tets setup) terms.elastic
   pub pairs : AreNearPairs setup terms.near_pairs

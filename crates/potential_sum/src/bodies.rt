@@ -1,7 +1,9 @@
 //! The tetrahedra of bodies, made ready for many calls.
-ghost use Rattle.std.specs.Prelude.{◌≡◌, ◌≤◌, ◌<◌, ◌^◌, IfOk, All, map, length};
+ghost use Rattle.std.specs.Prelude.{◌≡◌, ◌≤◌, ◌<◌, ◌^◌, IfOk, All, map, length, slice_index_or};
+ghost use Rattle.std.specs.List.Sorted.{IsPermutation};
 ghost use Rattle.list_laws.specs.Sums.{total};
 ghost use Rattle.space3.specs.Box.{IsInTheBox};
+ghost use Rattle.space3.specs.declared.lists.Tet.{Tet};
 ghost use Rattle.space3.specs.Mesh.{HasNodes};
 ghost use Rattle.space3.specs.Vectors.{AtMost};
 ghost use Rattle.surface_mesh.specs.Setup.{IsSetup};
@@ -18,6 +20,7 @@ ghost use Rattle.potential_sum.specs.Contributions.{elastic_contribution};
 
 use crate::blocks::Block;
 use crate::pulls::{Pull, add_pulls, pull_at};
+use crate::turns::{Turn, turns_of};
 use neo_hooke::{Element, rest_tet};
 use space3::{Places, Tet, V3, W3};
 use std::alloc::{AllocError, Global};
@@ -30,16 +33,29 @@ pub(crate) struct Body {
     pub element: Element,
 }
 
-// The tetrahedra of a setup.
+// The tetrahedra of a setup, in the order of their least nodes.
 pub(crate) fn bodies_of(alloc: Global, setup: &Setup) -> Result<Vec<Body>, AllocError>
     requires built { IsSetup setup.now }
     requires sturdy { IsSturdy setup.now }
-    ensures { IfOk result (λ made. map elastic_in made.items ≡ elastic_tets setup.now) }
+    ensures { IfOk result (λ made.
+        IsPermutation (elastic_tets setup.now) (map elastic_in made.items)) }
+{
+    let turns = turns_of(alloc, setup.mesh.tets.items())?;
+    bodies_in_turns(alloc, setup, turns.as_slice())
+}
+
+// The tetrahedra in these turns.
+fn bodies_in_turns(alloc: Global, setup: &Setup, turns: &[Turn]) -> Result<Vec<Body>, AllocError>
+    requires built { IsSetup setup.now }
+    requires sturdy { IsSturdy setup.now }
+    requires there { All (λ turn. turn.tet < length setup.now.mesh.tets) turns.now }
+    ensures { IfOk result (λ made. (d : Tet) → map elastic_in made.items ≡
+        map (λ turn. elastic_of setup.now (slice_index_or setup.now.mesh.tets turn.tet d)) turns.now) }
 {
     let tets = setup.mesh.tets.items();
-    let mut made = Vec::with_capacity(alloc, tets.len())?;
-    for tet in tets {
-        made.push(body_of(setup, tet))?;
+    let mut made = Vec::with_capacity(alloc, turns.len())?;
+    for turn in turns {
+        made.push(body_of(setup, &tets[turn.tet as usize]))?;
     }
     Ok(made)
 }

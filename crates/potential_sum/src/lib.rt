@@ -2,7 +2,7 @@
 //! parts of the surface, and of contacts.
 //!
 //! `terms`: the public calls. `inertia`, `bodies`, `barriers`, `friction`: what nodes, tetrahedra, pairs and
-//! contacts give; `contacts`: the contacts of a frame. `pulls`: the sums of the gradient. `matrix`, `blocks`: the
+//! contacts give; `turns`: the order of tetrahedra; `contacts`: the contacts of a frame. `pulls`: the sums of the gradient. `matrix`, `blocks`: the
 //! sums of the matrix; `fixed`: what it leaves out. `laws`: the matrix is symmetric.
 #![tactic(auto)]
 
@@ -17,6 +17,7 @@ mod laws;
 mod matrix;
 mod pulls;
 mod terms;
+mod turns;
 
 pub use laws::the_matrix_is_symmetric;
 pub use terms::Terms;

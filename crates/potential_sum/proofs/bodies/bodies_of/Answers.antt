@@ -1,27 +1,54 @@
-use Rattle.std.proofs.Common.{◌≡◌, ◌∙◌, ◌<◌, [], ◌∷◌, ◌++◌, length, map, get_or, sym, ap, subst, rules}
-use Rattle.std.proofs.lemmas.List.{map-append, map_more}
+use Rattle.std.proofs.Common.{◌≡◌, ◌∙◌, ℕ, ◌≤◌, ◌<◌, List, [], ◌∷◌, length, map, get_or, sym, ap, subst, arith}
+use Rattle.std.specs.Prelude.{All}
+use Rattle.std.specs.List.{range_with_len}
+use Rattle.std.specs.List.Sorted.{IsPermutation}
+use Rattle.std.proofs.lemmas.List.{ext_get_or}
+use Rattle.std.proofs.lemmas.List.FromFn.{get_or-map-range_with_len, length-map-range_with_len}
+use Rattle.std.proofs.lemmas.List.Sorted.{IsPermutation-map}
+use Rattle.std.proofs.lemmas.Result.{IfOk-weaker}
+use Rattle.std.proofs.lemmas.Simd.{map-map}
 use Rattle.space3.specs.declared.lists.Tet.{Tet}
-use Rattle.surface_mesh.proofs.SetupFacts.{material_is_in_range}
-use Rattle.neo_hooke.specs.Rest.{CanRest}
-use Rattle.potential_sum.specs.Bodies.{corners_at, elastic_of}
+use Rattle.surface_mesh.specs.declared.setup.Setup.{Setup}
+use Rattle.surface_mesh.specs.Setup.{IsSetup}
+use Rattle.potential_sum.specs.declared.bodies.Body.{Body}
+use Rattle.potential_sum.specs.declared.turns.Turn.{Turn}
+use Rattle.potential_sum.specs.Bodies.{ElasticTet, elastic_of, elastic_tets}
 use Rattle.potential_sum.specs.Calls.Kept.{elastic_in}
-use Rattle.potential_sum.proofs.Standing.{may_rest}
 use Rattle.potential_sum.proofs.bodies.bodies_of.Goals as goal
 
-pub body_of-requires-clause-rest : goal.body_of-requires-clause-rest
-body_of-requires-clause-rest c =
-    let there : c.loop-tet.tet-index < length c.args.setup.now.mesh.tets = search rules in
-    let at : c.tet-item.result ≡ get_or c.args.setup.now.mesh.tets c.loop-tet.tet-index c.tet-item.result = search rules in
-    subst (λ (tet : Tet). CanRest (corners_at c.args.setup.now.mesh.places tet.nodes)) (sym at) (may_rest c.args.setup.now c.requires.built c.requires.sturdy c.loop-tet.tet-index c.tet-item.result there)
+first : {X : Type 0} (xs : List X) → 1 ≤ length xs → X
+first [] some = absurd (omega arith)
+first (x ∷ xs) some = x
 
-pub body_of-requires-clause-material : goal.body_of-requires-clause-material
-body_of-requires-clause-material c = material_is_in_range c.args.setup.now.numbers c.tet-item.result c.requires.built.in_range
+-- a list by its positions
+by_positions : {X : Type 0} (xs : List X) (d : X) → map (λ i. get_or xs i d) (range_with_len 0 (length xs)) ≡ xs
+by_positions xs d = ext_get_or d (map (λ i. get_or xs i d) (range_with_len 0 (length xs))) xs (length-map-range_with_len (λ i. get_or xs i d) 0 (length xs))
+    (λ k l. get_or-map-range_with_len (λ i. get_or xs i d) 0 (length xs) k k d (omega (arith, l, length-map-range_with_len (λ i. get_or xs i d) 0 (length xs))) (omega arith))
 
-pub loop-tet-preserved : goal.loop-tet-preserved
-loop-tet-preserved c =
-    let there : c.loop-tet.tet-index < length c.args.setup.now.mesh.tets = search rules in
-    let at : c.tet-item.result ≡ get_or c.args.setup.now.mesh.tets c.loop-tet.tet-index c.tet-item.result = search rules in
-    let pushed : c.push.new.self.items ≡ c.loop-tet.made.items ++ c.body_of.result ∷ [] = search rules in
-    ap (map elastic_in) pushed ∙ map-append elastic_in c.loop-tet.made.items (c.body_of.result ∷ [])
-    ∙ (λ i. c.loop-tet.invariant i ++ (c.body_of.ensures ∙ ap (elastic_of c.args.setup.now) at) i ∷ [])
-    ∙ sym (map_more (elastic_of c.args.setup.now) c.args.setup.now.mesh.tets c.loop-tet.tet-index c.tet-item.result there)
+in_turns : (s : Setup) (turns : List Turn) (bodies : List Body) → IsSetup s → IsPermutation (range_with_len 0 (length s.mesh.tets)) (map (λ turn. turn.tet) turns)
+    → ((d : Tet) → map elastic_in bodies ≡ map (λ turn. elastic_of s (get_or s.mesh.tets turn.tet d)) turns) → IsPermutation (elastic_tets s) (map elastic_in bodies)
+in_turns s turns bodies built each made =
+    let d : Tet = first s.mesh.tets built.mesh_is_sound.some_tets in
+    let at : ℕ → ElasticTet = λ i. elastic_of s (get_or s.mesh.tets i d) in
+    let n : ℕ = length s.mesh.tets in
+    let all : map at (range_with_len 0 n) ≡ elastic_tets s = sym (map-map (elastic_of s) (λ i. get_or s.mesh.tets i d) (range_with_len 0 n)) ∙ ap (map (elastic_of s)) (by_positions s.mesh.tets d) in
+    let these : map at (map (λ turn. turn.tet) turns) ≡ map elastic_in bodies = map-map at (λ turn. turn.tet) turns ∙ sym (made d) in
+    subst (λ (list : List ElasticTet). IsPermutation list (map elastic_in bodies)) all
+    (subst (λ (list : List ElasticTet). IsPermutation (map at (range_with_len 0 n)) list) these
+    (IsPermutation-map at (range_with_len 0 n) (map (λ turn. turn.tet) turns) each))
+
+pub turns_of-requires : goal.turns_of-requires
+turns_of-requires c = subst (λ (tets : List Tet). length tets ≤ 65536) (sym c.items.ensures) c.requires.built.mesh_is_sound.few_tets
+
+pub bodies_in_turns-requires-clause-there : goal.bodies_in_turns-requires-clause-there
+bodies_in_turns-requires-clause-there c =
+    subst (λ (turns : List Turn). All (λ turn. turn.tet < length c.args.setup.now.mesh.tets) turns) (sym c.as_slice.ensures.value)
+    (subst (λ (tets : List Tet). All (λ turn. turn.tet < length tets) c.in_ok-turns.turns.items) c.items.ensures c.in_ok-turns.ensures.there)
+
+pub returns : goal.returns
+returns c =
+    let setup = c.args.setup.now in
+    let each : IsPermutation (range_with_len 0 (length setup.mesh.tets)) (map (λ (turn : Turn). turn.tet) c.as_slice.result.now) =
+    subst (λ (turns : List Turn). IsPermutation (range_with_len 0 (length setup.mesh.tets)) (map (λ turn. turn.tet) turns)) (sym c.as_slice.ensures.value)
+    (subst (λ (tets : List Tet). IsPermutation (range_with_len 0 (length tets)) (map (λ (turn : Turn). turn.tet) c.in_ok-turns.turns.items)) c.items.ensures c.in_ok-turns.ensures.each) in
+    IfOk-weaker c.bodies_in_turns.result _ _ (λ made h. in_turns setup c.as_slice.result.now made.items c.requires.built each h) c.bodies_in_turns.ensures

@@ -1,6 +1,7 @@
 use Rattle.std.proofs.Common.{◌≡◌, ◌∙◌, ◌++◌, ◌^◌, take, drop, ℕ, ℤ, false, List, map, length, get_or, ap, subst, sym, rules}
 use Rattle.std.specs.Prelude.{All, Bool, slice_index_or}
 use Rattle.std.specs.List.{flat_map, range_with_len}
+use Rattle.std.specs.List.Sorted.{IsPermutation}
 use Rattle.std.proofs.lemmas.List.Elements.{All-map}
 use Rattle.space3.specs.declared.vectors.V3.{V3}
 use Rattle.boundary.specs.declared.pairs.Pair.{Pair}
@@ -17,12 +18,12 @@ use Rattle.potential_sum.specs.Calls.Sums.{AreLight, node_sums, nothing, numbers
 use Rattle.potential_sum.specs.Contributions.{Contribution, contributions, elastic_contribution}
 use Rattle.potential_sum.specs.Terms.{KeptTerms}
 use Rattle.potential_sum.proofs.CloseParts.{found_are_close, found_are_few}
-use Rattle.potential_sum.proofs.Gradients.{contributions-kept, numbers-sums}
+use Rattle.potential_sum.proofs.Gradients.{contributions-kept, node_sums-permutation, numbers-sums}
 use Rattle.potential_sum.proofs.FrameContacts.{few_held, held_may_slide}
 use Rattle.potential_sum.proofs.KeptTerms.{movers}
 use Rattle.potential_sum.proofs.Parts.{barrier-part-inside, friction-part-inside}
 use Rattle.potential_sum.proofs.PullSums.{IsInside, length-node_sums, with_parts-sums, written_back}
-use Rattle.potential_sum.proofs.Standing.{bodies_may_stand}
+use Rattle.potential_sum.proofs.Standing.{bodies_may_stand, few_bodies}
 use Rattle.potential_sum.proofs.terms.Terms.slopes.Goals as goal
 
 pub body_sums-requires-clause-nodes : goal.body_sums-requires-clause-nodes
@@ -33,7 +34,13 @@ body_sums-requires-clause-nodes c =
 pub body_sums-requires-clause-stand : goal.body_sums-requires-clause-stand
 body_sums-requires-clause-stand c =
     subst (All (λ body. MayStand c.args.x.now (elastic_in body))) (sym c.as_slice-2.ensures.value)
-    (bodies_may_stand c.args.setup.now c.args.x.now c.self.inside.bodies.items c.requires.built c.requires.pose (ap (λ (t : KeptTerms). t.elastic) c.self.view_is ∙ c.requires.stand.elastic))
+    (bodies_may_stand c.args.setup.now c.args.x.now c.self.inside.bodies.items c.requires.built c.requires.pose
+    (subst (IsPermutation (elastic_tets c.args.setup.now)) (sym (ap (λ (t : KeptTerms). t.elastic) c.self.view_is)) c.requires.stand.elastic))
+
+pub body_sums-requires-clause-few_bodies : goal.body_sums-requires-clause-few_bodies
+body_sums-requires-clause-few_bodies c =
+    few_bodies c.args.setup.now c.as_slice-2.result.now c.requires.built
+    (subst (IsPermutation (elastic_tets c.args.setup.now)) (sym (ap (map elastic_in) c.as_slice-2.ensures.value ∙ ap (λ (t : KeptTerms). t.elastic) c.self.view_is)) c.requires.stand.elastic)
 
 pub add_barrier_pulls-requires-clause-close : goal.add_barrier_pulls-requires-clause-close
 add_barrier_pulls-requires-clause-close c = found_are_close c.args.setup.now c.args.x.now c.items-2.result.now c.requires.built c.requires.pose (c.items-2.ensures ∙ c.in_ok-pairs.ensures)
@@ -82,7 +89,7 @@ returns c =
     let rubbing : List Contact → List Contribution = map (friction_at s.numbers x) in
     let targets = c.as_slice.ensures.value ∙ ap (λ (t : KeptTerms). t.frame.targets) c.self.view_is in
     let lagged : map lagged_in contacts ≡ frame.contacts = ap (λ (t : KeptTerms). t.frame.contacts) c.self.view_is in
-    let kept : map elastic_in bodies ≡ elastic_tets s = ap (λ (t : KeptTerms). t.elastic) c.self.view_is ∙ c.requires.stand.elastic in
+    let kept = subst (IsPermutation (elastic_tets s)) (sym (ap (λ (t : KeptTerms). t.elastic) c.self.view_is)) c.requires.stand.elastic in
     let whole : length c.add_barrier_pulls.new.sums ≡ c.in_ok-sums.sums.len = search rules in
     let whole_after : length c.add_friction_pulls.new.sums ≡ c.in_ok-sums.sums.len = search rules in
     let of_bodies : c.deref_mut.result.now ≡ node_sums n (inertia s.mass frame.targets ++ elasticity bodies) =
@@ -97,7 +104,7 @@ returns c =
     ∙ c.add_friction_pulls.ensures ∙ (λ i. with_parts (of_surface i) (rubbing (c.as_slice-3.ensures.value i)))
     ∙ with_parts-sums n (inertia s.mass frame.targets ++ elasticity bodies ++ near c.in_ok-pairs.pairs) (rubbing contacts)
     (All-map (IsInside n) (friction_at s.numbers x) contacts (λ k d l. friction-part-inside s.numbers x (lagged_in (get_or contacts k d)) (held_may_slide s x contacts frame.contacts c.requires.built c.requires.pose c.requires.stand.contacts lagged k d l)))
-    ∙ ap (node_sums n) (contributions-kept s frame x bodies c.in_ok-pairs.pairs contacts c.requires.pose.each kept c.in_ok-pairs.ensures lagged) in
+    ∙ node_sums-permutation n (contributions s frame x) _ (contributions-kept s frame x bodies c.in_ok-pairs.pairs contacts c.requires.pose.each kept c.in_ok-pairs.ensures lagged) in
     c.in_ok-made.ensures
     ∙ ap (λ (fixed : List Bool). flat_map (λ (node : ℕ). numbers_of (slice_index_or fixed node false) (slice_index_or c.as_slice-4.result.now node nothing)) (range_with_len 0 (length c.as_slice-4.result.now))) c.items-3.ensures
     ∙ numbers-sums s frame x c.as_slice-4.result.now c.requires.pose.each sums
