@@ -1,6 +1,7 @@
 -- What terms that stand for a setup give at a pose.
 use Rattle.std.proofs.Common.{◌≡◌, ◌∙◌, ◌^◌, ◌≤◌, ℕ, ◌+◌, ◌<◌, ℤ, ◌+ℤ◌, List, sym, subst, arith, to_z, of_z, unsigned_abs, lit<}
 use Rattle.std.specs.Int.{w128}
+use Rattle.std.specs.List.Sorted.{IsPermutation}
 use Rattle.whole_laws.proofs.Order.{clean, size_sum}
 use Rattle.space3.specs.declared.vectors.V3.{V3}
 use Rattle.space3.specs.Vectors.{AtMost}
@@ -8,6 +9,7 @@ use Rattle.surface_mesh.specs.declared.setup.Setup.{Setup}
 use Rattle.surface_mesh.specs.Setup.{IsSetup}
 use Rattle.surface_mesh.specs.Sturdy.{IsSturdy}
 use Rattle.surface_mesh.proofs.SetupFacts.{mass_length}
+use Rattle.potential_sum.specs.Bodies.{ElasticTet, elastic_tets}
 use Rattle.potential_sum.specs.Calls.Inertia.{AreMovers}
 use Rattle.potential_sum.specs.Upright.{IsUpright}
 use Rattle.potential_sum.specs.Terms.{KeptTerms, StandFor}
@@ -23,6 +25,10 @@ movers s terms x masses targets built sturdy stand pose e f =
       light = sturdy.mass;
       near = stand.near;
     }))
+
+-- what is kept of tetrahedra is of the setup's
+pub elastic_kept : (s : Setup) (terms : KeptTerms) (tets : List ElasticTet) → tets ≡ terms.elastic → StandFor s terms → IsPermutation (elastic_tets s) tets
+elastic_kept s terms tets e stand = subst (IsPermutation (elastic_tets s)) (sym e) stand.elastic
 
 -- ---- the sum of four energies, as it is computed
 abbrev kept : ℤ → ℤ

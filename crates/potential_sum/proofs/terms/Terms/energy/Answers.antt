@@ -1,13 +1,11 @@
 use Rattle.std.proofs.Common.{◌∙◌, List, map, length, ap, subst, sym}
 use Rattle.std.specs.Prelude.{All}
 use Rattle.std.specs.List.{range_with_len}
-use Rattle.std.specs.List.Sorted.{IsPermutation}
 use Rattle.list_laws.specs.Sums.{total}
 use Rattle.boundary.specs.declared.pairs.Pair.{Pair}
 use Rattle.friction_lag.specs.declared.contacts.Contact.{Contact}
 use Rattle.friction_lag.specs.Lagged.{lagged_in}
 use Rattle.potential_sum.specs.declared.bodies.Body.{Body}
-use Rattle.potential_sum.specs.Bodies.{elastic_tets}
 use Rattle.potential_sum.specs.Calls.Barriers.{barrier_at}
 use Rattle.potential_sum.specs.Calls.Friction.{friction_at}
 use Rattle.potential_sum.specs.Calls.Inertia.{energy_at}
@@ -17,7 +15,7 @@ use Rattle.potential_sum.specs.Terms.{KeptTerms}
 use Rattle.potential_sum.proofs.CloseParts.{found_are_close, found_are_few}
 use Rattle.potential_sum.proofs.Energies.{potential-kept}
 use Rattle.potential_sum.proofs.FrameContacts.{few_held, held_may_slide}
-use Rattle.potential_sum.proofs.KeptTerms.{all_four, movers}
+use Rattle.potential_sum.proofs.KeptTerms.{all_four, elastic_kept, movers}
 use Rattle.potential_sum.proofs.Standing.{bodies_may_stand, few_bodies}
 use Rattle.potential_sum.proofs.terms.Terms.energy.Goals as goal
 
@@ -29,13 +27,12 @@ inertia_energy_of-inertia-requires-clause-nodes c =
 pub elastic_energy-elastic-requires-clause-stand : goal.elastic_energy-elastic-requires-clause-stand
 elastic_energy-elastic-requires-clause-stand c =
     subst (All (λ body. MayStand c.args.x.now (elastic_in body))) (sym c.as_slice-2.ensures.value)
-    (bodies_may_stand c.args.setup.now c.args.x.now c.self.inside.bodies.items c.requires.built c.requires.pose
-    (subst (IsPermutation (elastic_tets c.args.setup.now)) (sym (ap (λ (t : KeptTerms). t.elastic) c.self.view_is)) c.requires.stand.elastic))
+    (bodies_may_stand c.args.setup.now c.args.x.now c.self.inside.bodies.items c.requires.built c.requires.pose (elastic_kept c.args.setup.now c.args.self.now _ (ap (λ (t : KeptTerms). t.elastic) c.self.view_is) c.requires.stand))
 
 pub elastic_energy-elastic-requires-clause-few : goal.elastic_energy-elastic-requires-clause-few
 elastic_energy-elastic-requires-clause-few c =
     few_bodies c.args.setup.now c.as_slice-2.result.now c.requires.built
-    (subst (IsPermutation (elastic_tets c.args.setup.now)) (sym (ap (map elastic_in) c.as_slice-2.ensures.value ∙ ap (λ (t : KeptTerms). t.elastic) c.self.view_is)) c.requires.stand.elastic)
+    (elastic_kept c.args.setup.now c.args.self.now _ (ap (map elastic_in) c.as_slice-2.ensures.value ∙ ap (λ (t : KeptTerms). t.elastic) c.self.view_is) c.requires.stand)
 
 pub barrier_energy_of-barriers-requires-clause-close : goal.barrier_energy_of-barriers-requires-clause-close
 barrier_energy_of-barriers-requires-clause-close c = found_are_close c.args.setup.now c.args.x.now c.items-2.result.now c.requires.built c.requires.pose (c.items-2.ensures ∙ c.in_ok-pairs.ensures)
@@ -54,7 +51,7 @@ friction_energy_of-friction-requires-clause-few c =
 pub returns : goal.returns
 returns c =
     let targets = c.as_slice.ensures.value ∙ ap (λ (t : KeptTerms). t.frame.targets) c.self.view_is in
-    let kept = subst (IsPermutation (elastic_tets c.args.setup.now)) (sym (ap (λ (t : KeptTerms). t.elastic) c.self.view_is)) c.requires.stand.elastic in
+    let kept = elastic_kept c.args.setup.now c.args.self.now _ (ap (λ (t : KeptTerms). t.elastic) c.self.view_is) c.requires.stand in
     all_four _ _ _ _ _ _ _ _
     (c.inertia_energy_of-inertia.ensures.value ∙ (λ i. total (map (energy_at (c.items.ensures i) (targets i) c.args.x.now) (range_with_len 0 (length c.args.x.now)))))
     (c.elastic_energy-elastic.ensures.value ∙ ap (λ (bodies : List Body). total (map (λ body. (elastic_contribution c.args.x.now (elastic_in body)).energy) bodies)) c.as_slice-2.ensures.value)

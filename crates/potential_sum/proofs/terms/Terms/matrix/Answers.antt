@@ -1,17 +1,16 @@
 use Rattle.std.proofs.Common.{◌≡◌, ◌∙◌, Bool, List, map, ap, subst, sym}
 use Rattle.std.specs.Prelude.{All}
-use Rattle.std.specs.List.Sorted.{IsPermutation}
 use Rattle.block_rows.specs.Stored.{table_of}
 use Rattle.block_rows.specs.Tables.{cut_table}
 use Rattle.block_rows.proofs.FreeTables.{cut_of_free}
 use Rattle.friction_lag.specs.Lagged.{lagged_in}
 use Rattle.surface_mesh.proofs.SetupFacts.{fixed_length, mass_length}
-use Rattle.potential_sum.specs.Bodies.{elastic_tets}
 use Rattle.potential_sum.specs.Calls.Kept.{MayStand, elastic_in}
 use Rattle.potential_sum.specs.Terms.{KeptTerms}
 use Rattle.potential_sum.proofs.CloseParts.{found_are_close, found_are_few}
 use Rattle.potential_sum.proofs.FrameContacts.{held_may_slide}
 use Rattle.potential_sum.proofs.FrameMatrices.{stiffness-kept}
+use Rattle.potential_sum.proofs.KeptTerms.{elastic_kept}
 use Rattle.potential_sum.proofs.Standing.{bodies_may_stand, few_bodies}
 use Rattle.potential_sum.proofs.terms.Terms.matrix.Goals as goal
 
@@ -24,7 +23,7 @@ block_sums-requires-clause-each_flag c = fixed_length c.args.setup.now c.require
 pub block_sums-requires-clause-few_bodies : goal.block_sums-requires-clause-few_bodies
 block_sums-requires-clause-few_bodies c =
     few_bodies c.args.setup.now c.as_slice.result.now c.requires.built
-    (subst (IsPermutation (elastic_tets c.args.setup.now)) (sym (ap (map elastic_in) c.as_slice.ensures.value ∙ ap (λ (t : KeptTerms). t.elastic) c.self.view_is)) c.requires.stand.elastic)
+    (elastic_kept c.args.setup.now c.args.self.now _ (ap (map elastic_in) c.as_slice.ensures.value ∙ ap (λ (t : KeptTerms). t.elastic) c.self.view_is) c.requires.stand)
 
 pub block_sums-requires-clause-few_pairs : goal.block_sums-requires-clause-few_pairs
 block_sums-requires-clause-few_pairs c = found_are_few c.args.setup.now c.args.x.now c.items.result.now c.requires.built (c.items.ensures ∙ c.in_ok-pairs.ensures)
@@ -32,8 +31,7 @@ block_sums-requires-clause-few_pairs c = found_are_few c.args.setup.now c.args.x
 pub block_sums-requires-clause-stand : goal.block_sums-requires-clause-stand
 block_sums-requires-clause-stand c =
     subst (All (λ body. MayStand c.args.x.now (elastic_in body))) (sym c.as_slice.ensures.value)
-    (bodies_may_stand c.args.setup.now c.args.x.now c.self.inside.bodies.items c.requires.built c.requires.pose
-    (subst (IsPermutation (elastic_tets c.args.setup.now)) (sym (ap (λ (t : KeptTerms). t.elastic) c.self.view_is)) c.requires.stand.elastic))
+    (bodies_may_stand c.args.setup.now c.args.x.now c.self.inside.bodies.items c.requires.built c.requires.pose (elastic_kept c.args.setup.now c.args.self.now _ (ap (λ (t : KeptTerms). t.elastic) c.self.view_is) c.requires.stand))
 
 pub block_sums-requires-clause-close : goal.block_sums-requires-clause-close
 block_sums-requires-clause-close c = found_are_close c.args.setup.now c.args.x.now c.items.result.now c.requires.built c.requires.pose (c.items.ensures ∙ c.in_ok-pairs.ensures)
@@ -48,7 +46,7 @@ returns-clause-table c =
     let setup = c.args.setup.now in
     let bodies = c.as_slice.result.now in
     let contacts = c.as_slice-2.result.now in
-    let kept = subst (IsPermutation (elastic_tets setup)) (sym (ap (map elastic_in) c.as_slice.ensures.value ∙ ap (λ (t : KeptTerms). t.elastic) c.self.view_is)) c.requires.stand.elastic in
+    let kept = elastic_kept setup c.args.self.now _ (ap (map elastic_in) c.as_slice.ensures.value ∙ ap (λ (t : KeptTerms). t.elastic) c.self.view_is) c.requires.stand in
     let lagged : map lagged_in contacts ≡ c.args.self.now.frame.contacts = ap (map lagged_in) c.as_slice-2.ensures.value ∙ ap (λ (t : KeptTerms). t.frame.contacts) c.self.view_is in
     let sums = table_of c.in_ok-sums.sums.rows in
     c.in_ok-rows.ensures.table

@@ -1,7 +1,6 @@
 use Rattle.std.proofs.Common.{◌≡◌, ◌∙◌, ◌++◌, ◌^◌, take, drop, ℕ, ℤ, false, List, map, length, get_or, ap, subst, sym, rules}
 use Rattle.std.specs.Prelude.{All, Bool, slice_index_or}
 use Rattle.std.specs.List.{flat_map, range_with_len}
-use Rattle.std.specs.List.Sorted.{IsPermutation}
 use Rattle.std.proofs.lemmas.List.Elements.{All-map}
 use Rattle.space3.specs.declared.vectors.V3.{V3}
 use Rattle.boundary.specs.declared.pairs.Pair.{Pair}
@@ -9,7 +8,6 @@ use Rattle.boundary.specs.Pairs.{part_pair}
 use Rattle.friction_lag.specs.declared.contacts.Contact.{Contact}
 use Rattle.friction_lag.specs.Lagged.{lagged_in}
 use Rattle.potential_sum.specs.declared.bodies.Body.{Body}
-use Rattle.potential_sum.specs.Bodies.{elastic_tets}
 use Rattle.potential_sum.specs.Calls.Barriers.{barrier_at}
 use Rattle.potential_sum.specs.Calls.Friction.{friction_at}
 use Rattle.potential_sum.specs.Calls.Inertia.{part_at}
@@ -20,7 +18,7 @@ use Rattle.potential_sum.specs.Terms.{KeptTerms}
 use Rattle.potential_sum.proofs.CloseParts.{found_are_close, found_are_few}
 use Rattle.potential_sum.proofs.Gradients.{contributions-kept, node_sums-permutation, numbers-sums}
 use Rattle.potential_sum.proofs.FrameContacts.{few_held, held_may_slide}
-use Rattle.potential_sum.proofs.KeptTerms.{movers}
+use Rattle.potential_sum.proofs.KeptTerms.{elastic_kept, movers}
 use Rattle.potential_sum.proofs.Parts.{barrier-part-inside, friction-part-inside}
 use Rattle.potential_sum.proofs.PullSums.{IsInside, length-node_sums, with_parts-sums, written_back}
 use Rattle.potential_sum.proofs.Standing.{bodies_may_stand, few_bodies}
@@ -34,13 +32,12 @@ body_sums-requires-clause-nodes c =
 pub body_sums-requires-clause-stand : goal.body_sums-requires-clause-stand
 body_sums-requires-clause-stand c =
     subst (All (λ body. MayStand c.args.x.now (elastic_in body))) (sym c.as_slice-2.ensures.value)
-    (bodies_may_stand c.args.setup.now c.args.x.now c.self.inside.bodies.items c.requires.built c.requires.pose
-    (subst (IsPermutation (elastic_tets c.args.setup.now)) (sym (ap (λ (t : KeptTerms). t.elastic) c.self.view_is)) c.requires.stand.elastic))
+    (bodies_may_stand c.args.setup.now c.args.x.now c.self.inside.bodies.items c.requires.built c.requires.pose (elastic_kept c.args.setup.now c.args.self.now _ (ap (λ (t : KeptTerms). t.elastic) c.self.view_is) c.requires.stand))
 
 pub body_sums-requires-clause-few_bodies : goal.body_sums-requires-clause-few_bodies
 body_sums-requires-clause-few_bodies c =
     few_bodies c.args.setup.now c.as_slice-2.result.now c.requires.built
-    (subst (IsPermutation (elastic_tets c.args.setup.now)) (sym (ap (map elastic_in) c.as_slice-2.ensures.value ∙ ap (λ (t : KeptTerms). t.elastic) c.self.view_is)) c.requires.stand.elastic)
+    (elastic_kept c.args.setup.now c.args.self.now _ (ap (map elastic_in) c.as_slice-2.ensures.value ∙ ap (λ (t : KeptTerms). t.elastic) c.self.view_is) c.requires.stand)
 
 pub add_barrier_pulls-requires-clause-close : goal.add_barrier_pulls-requires-clause-close
 add_barrier_pulls-requires-clause-close c = found_are_close c.args.setup.now c.args.x.now c.items-2.result.now c.requires.built c.requires.pose (c.items-2.ensures ∙ c.in_ok-pairs.ensures)
@@ -89,7 +86,7 @@ returns c =
     let rubbing : List Contact → List Contribution = map (friction_at s.numbers x) in
     let targets = c.as_slice.ensures.value ∙ ap (λ (t : KeptTerms). t.frame.targets) c.self.view_is in
     let lagged : map lagged_in contacts ≡ frame.contacts = ap (λ (t : KeptTerms). t.frame.contacts) c.self.view_is in
-    let kept = subst (IsPermutation (elastic_tets s)) (sym (ap (λ (t : KeptTerms). t.elastic) c.self.view_is)) c.requires.stand.elastic in
+    let kept = elastic_kept s c.args.self.now _ (ap (λ (t : KeptTerms). t.elastic) c.self.view_is) c.requires.stand in
     let whole : length c.add_barrier_pulls.new.sums ≡ c.in_ok-sums.sums.len = search rules in
     let whole_after : length c.add_friction_pulls.new.sums ≡ c.in_ok-sums.sums.len = search rules in
     let of_bodies : c.deref_mut.result.now ≡ node_sums n (inertia s.mass frame.targets ++ elasticity bodies) =
