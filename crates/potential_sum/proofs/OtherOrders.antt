@@ -37,9 +37,10 @@ total-swap xs i j there also =
     ∙ cancelled (total w) (total xs) a b (get_or w j (pos 0)) (total-set xs i b (pos 0) there) (stays xs i j there)
   where
     stays : (xs : List ℤ) (i j : ℕ) → i < length xs → get_or (set xs i (get_or xs j (pos 0))) j (pos 0) ≡ get_or xs j (pos 0)
-    stays xs i j there = elim (eqb_tells j i)
-        [ inl t ↦ get_or-set_at xs i j (get_or xs j (pos 0)) (pos 0) t.1 there
-        | inr t ↦ get_or-set_other xs i j (get_or xs j (pos 0)) (pos 0) t.1 ]
+    stays xs i j there = elim (eqb_tells j i) [
+      | inl t ↦ get_or-set_at xs i j (get_or xs j (pos 0)) (pos 0) t.1 there
+      | inr t ↦ get_or-set_other xs i j (get_or xs j (pos 0)) (pos 0) t.1
+    ]
 
     cancelled : (once all a b now : ℤ) → once ≡ all +ℤ b -ℤ a → now ≡ b → once +ℤ a -ℤ now ≡ all
     cancelled once all a b now e f = omega (arith, ints)

@@ -105,12 +105,7 @@ impl Terms {
 
     /// Goes on where the nodes stand at `x`, as for [`Terms::energy`]: where one has moved by more than dhat from its
     /// kept place, the near pairs at `x` are kept from now on. Nothing else changes.
-    pub fn follow(
-        &mut self,
-        alloc: Global,
-        setup: &Setup,
-        x: &Places,
-    ) -> Result<(), AllocError>
+    pub fn follow(&mut self, alloc: Global, setup: &Setup, x: &Places) -> Result<(), AllocError>
         requires built { IsSetup setup.now }
         requires stand { StandFor setup.now self.old }
         requires pose { IsUpright setup.now x.now }
