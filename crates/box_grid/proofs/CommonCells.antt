@@ -1,10 +1,9 @@
 -- Two boxes that have a common point have a common cell.
-use Rattle.std.proofs.Common.{◌≡◌, if◌then◌else◌, ◌∙◌, ℕ, true, ◌+◌, ◌-◌, ◌*◌, ◌/◌, ◌<◌, ◌≤◌, max, min, ℤ, pos, ◌+ℤ◌, ◌-ℤ◌, ◌≤ℤ◌, unsigned_abs, List, [], length, ap, sym, subst, arith}
+use Rattle.std.proofs.Common.{◌≡◌, if◌then◌else◌, ℕ, true, ◌+◌, ◌-◌, ◌<◌, ◌≤◌, max, min, ℤ, pos, ◌+ℤ◌, ◌-ℤ◌, ◌≤ℤ◌, unsigned_abs, List, [], length, sym, subst, arith}
 use Rattle.std.specs.Prelude.{IsTrue}
 use Rattle.std.specs.List.{range_with_len, All, Contains}
 use Rattle.std.proofs.lemmas.Bool.{and_parts}
 use Rattle.std.proofs.lemmas.Int.{ints}
-use Rattle.std.proofs.lemmas.Nat.{le-div, div-add-mod'}
 use Rattle.list_laws.proofs.Membership.{Contains-flat_map, Contains-range}
 use Rattle.space3.specs.Boxes.{are_within}
 use Rattle.space3.specs.Vectors.{AtMost, origin}
@@ -16,13 +15,10 @@ use Rattle.box_grid.specs.declared.entries.Entry.{Entry}
 use Rattle.box_grid.specs.declared.sizes.Level.{Level}
 use Rattle.box_grid.specs.declared.limits.TheConstants.{AXIS_LIMIT, LEAST_SIDE, REACH_LIMIT}
 use Rattle.box_grid.specs.Near.{LiesInTheBox, box_at}
-use Rattle.box_grid.specs.Calls.Cells.{LiesByTheBox, cell_of, cells_over, entries_in, entries_of, entries_of_boxes, entry, has, key_of, row_of}
-use Rattle.box_grid.proofs.CellRows.{entry_of_cell, key_along_row, row_of_cell}
+use Rattle.box_grid.specs.Calls.Cells.{LiesByTheBox, cell_of, cells_over, entries_in, entries_of, entries_of_boxes, entry, has, key_of, keys_over}
+use Rattle.box_grid.proofs.Divisions.{div_keeps_order}
+use Rattle.box_grid.proofs.KeysOfCells.{entry_of_cell, key_of_cell}
 use Rattle.box_grid.proofs.WideBoxes.{by_the_box}
-
--- a division by a side doesn't turn the order
-pub div_keeps_order : (a b side : ℕ) → 0 < side → a ≤ b → a / side ≤ b / side
-div_keeps_order a b side s h = le-div (a / side) b side s (omega (arith, div-add-mod' a side))
 
 cell_keeps_order : (side : ℕ) (u v : ℤ) → 0 < side → pos 0 ≤ℤ (u +ℤ pos AXIS_LIMIT) → u ≤ℤ v → cell_of side u ≤ cell_of side v
 unfolding cell_of
@@ -57,32 +53,23 @@ along side al ag bl bg s a b before after =
     no_gap : (a b : ℤ) → (a -ℤ b) ≤ℤ pos 0 → a ≤ℤ b
     no_gap a b h = omega (arith, ints)
 
--- an entry of the item in a row of the cells
-pub record EntryInRows (entries : List Entry) (c : Cells) (item : ℕ) : Type 0 where
-  pub row : ℕ
-  pub within : row < c.width * c.depth
+-- an entry of the item with a key of the cells
+pub record EntryOfCells (entries : List Entry) (c : Cells) (item : ℕ) : Type 0 where
   pub key : ℕ
   pub there : Contains entries (entry key item)
-  pub from : row_of c row ≤ key
-  pub below : key < row_of c row + c.height
+  pub of_cells : Contains (keys_over c) key
 
--- where two boxes' cells have a common one, the second has an entry in a row of the first
-entry_of_common_cell : (a b : Cells) (item : ℕ) → Common a.x a.width b.x b.width → Common a.y a.depth b.y b.depth → Common a.z a.height b.z b.height → EntryInRows (entries_of b item) a item
-entry_of_common_cell a b item cx cy cz =
-    let row = row_of_cell a cx.cell cy.cell cx.from_a cx.below_a cy.from_a cy.below_a in
-    let e : key_of cx.cell cy.cell a.z + (cz.cell - a.z) ≡ key_of cx.cell cy.cell cz.cell = key_along_row cx.cell cy.cell a.z (cz.cell - a.z) ∙ ap (key_of cx.cell cy.cell) (let on : a.z + (cz.cell - a.z) ≡ cz.cell = omega (arith, cz.from_a) in on) in
-    record {
-      row = row.0;
-      within = row.1;
-      key = key_of cx.cell cy.cell cz.cell;
-      there = entry_of_cell b item cx.cell cy.cell cz.cell cx.from_b cx.below_b cy.from_b cy.below_b cz.from_b cz.below_b;
-      from = omega (arith, row.2, e);
-      below = omega (arith, row.2, e, cz.below_a, cz.from_a);
-    }
+-- where two boxes' cells have a common one, the second has an entry with a key of the first
+entry_of_common_cell : (a b : Cells) (item : ℕ) → Common a.x a.width b.x b.width → Common a.y a.depth b.y b.depth → Common a.z a.height b.z b.height → EntryOfCells (entries_of b item) a item
+entry_of_common_cell a b item cx cy cz = record {
+  key = key_of cx.cell cy.cell cz.cell;
+  there = entry_of_cell b item (key_of cx.cell cy.cell cz.cell) (key_of_cell b cx.cell cy.cell cz.cell cx.from_b cx.below_b cy.from_b cy.below_b cz.from_b cz.below_b);
+  of_cells = key_of_cell a cx.cell cy.cell cz.cell cx.from_a cx.below_a cy.from_a cy.below_a cz.from_a cz.below_a;
+}
 
--- a box that touches has an entry in a row of the cells
+-- a box that touches has an entry with a key of the cells
 pub entry_of_touching_box : (level : Level) (reached : BoundingBox) (boxes : List BoundingBox) (item : ℕ) → LEAST_SIDE ≤ level.side → LiesByTheBox reached → All LiesInTheBox boxes → item < length boxes → IsTrue (are_within 0 reached (box_at boxes item)) → has level (box_at boxes item) ≡ true →
-    EntryInRows (entries_of_boxes level boxes) (cells_over level.side reached) item
+    EntryOfCells (entries_of_boxes level boxes) (cells_over level.side reached) item
 entry_of_touching_box level a boxes item s h all below touch had =
     let side = level.side in
     let b = box_at boxes item in
@@ -97,11 +84,8 @@ entry_of_touching_box level a boxes item s h all below touch had =
     (along side a.least.y a.greatest.y b.least.y b.greatest.y (omega arith) h.least.y other.least.y y.0 y.1)
     (along side a.least.z a.greatest.z b.least.z b.greatest.z (omega arith) h.least.z other.least.z z.0 z.1) in
     record {
-      row = f.row;
-      within = f.within;
       key = f.key;
       there = Contains-flat_map (λ i. entries_in level (box_at boxes i) i) (range_with_len 0 (length boxes)) item (entry f.key item) (Contains-range (length boxes) item below)
           (subst (λ t. Contains (if t then entries_of (cells_over side b) item else []) (entry f.key item)) (sym had) f.there);
-      from = f.from;
-      below = f.below;
+      of_cells = f.of_cells;
     }

@@ -1,9 +1,10 @@
 pub mod AppendedLists
-pub mod CellRows
+pub mod BucketOrder
 pub mod CommonCells
-pub mod EntryParts
+pub mod Divisions
+pub mod FoundByKeys
+pub mod KeysOfCells
 pub mod NearPositions
-pub mod SameFilter
 pub mod Sides
 pub mod SortedNumbers
 pub mod WideBoxes

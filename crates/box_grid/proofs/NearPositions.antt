@@ -1,74 +1,103 @@
--- The ascending positions of the boxes that touch in the cells of both levels are the near positions.
-use Rattle.std.proofs.Common.{◌≡◌, ◌∙◌, ℕ, ◌<◌, ◌&&◌, true, false, not, List, [], ◌++◌, length, get_or, ap, sym, subst, arith, inl, inr}
+-- What touches in the cells of both levels is near, and all that is near is there.
+use Rattle.std.proofs.Common.{◌≡◌, ◌∙◌, ℕ, ◌<◌, ◌&&◌, Bool, true, false, not, List, [], ◌++◌, length, ap, sym, subst, arith, inl, inr}
 use Rattle.std.specs.Prelude.{IsTrue, filter, nat_le}
 use Rattle.std.specs.List.{range_with_len, All, Contains}
-use Rattle.std.specs.List.Sorted.{IsStrictlyIncreasing}
 use Rattle.std.proofs.lemmas.Bool.{and_parts, cases_Bool}
-use Rattle.std.proofs.lemmas.List.Elements.{All-contains, Contains-get_or}
+use Rattle.std.proofs.lemmas.List.Elements.{All-contains}
+use Rattle.std.proofs.lemmas.List.FromFn.{get_or-range_with_len, length-range_with_len}
 use Rattle.std.proofs.lemmas.List.Sorted.{All-permutation, Contains-permutation}
+use Rattle.list_laws.proofs.Membership.{Contains-filter, Contains-from_filter, Contains-range}
 use Rattle.space3.specs.Boxes.{are_within}
 use Rattle.space3.specs.declared.boxes.BoundingBox.{BoundingBox}
+use Rattle.box_grid.specs.declared.cells.Cells.{Cells}
 use Rattle.box_grid.specs.declared.entries.Entry.{Entry}
 use Rattle.box_grid.specs.declared.search.Query.{Query}
 use Rattle.box_grid.specs.declared.sizes.Level.{Level}
-use Rattle.box_grid.specs.Near.{LiesInTheBox, box_at, near_positions}
-use Rattle.box_grid.specs.Calls.Cells.{HasAllRows, IsGrid, IsLevel, LiesByTheBox, PassesBelow, cells_over, entries_of_boxes, entry, has, is_great, level_of, touches, widened}
-use Rattle.box_grid.proofs.CellRows.{items_below}
+use Rattle.box_grid.specs.Near.{HasJust, LiesInTheBox, box_at, near_positions}
+use Rattle.box_grid.specs.Calls.Buckets.{Bucketed, HasKeys, IsGrid, IsLevel, level_of}
+use Rattle.box_grid.specs.Calls.Cells.{LiesByTheBox, PassesBelow, cells_over, entries_of_boxes, entry, has, is_great, keys_over, touches, widened}
 use Rattle.box_grid.proofs.CommonCells.{entry_of_touching_box}
-use Rattle.box_grid.proofs.SameFilter.{is_filter}
+use Rattle.box_grid.proofs.KeysOfCells.{items_below}
 use Rattle.box_grid.proofs.WideBoxes.{widened_touches}
 
 -- the entries' items are positions of boxes
-positions : (level : Level) (boxes : List BoundingBox) (entries : List Entry) → IsLevel level boxes entries → All (λ (e : Entry). e.item < length boxes) entries
-positions level boxes entries l =
-    All-permutation (λ (e : Entry). e.item < length boxes) (entries_of_boxes level boxes) entries l.entered (items_below level boxes)
+positions : (level : Level) (boxes : List BoundingBox) (b : Bucketed) → IsLevel level boxes b → All (λ (e : Entry). e.item < length boxes) b.entries
+positions level boxes b l =
+    All-permutation (λ (e : Entry). e.item < length boxes) (entries_of_boxes level boxes) b.entries l.entered (items_below level boxes)
 
--- the same of lists that are known to be others
-pub items_of_level : (level : Level) (boxes inner : List BoundingBox) (entries es : List Entry) → IsLevel level boxes entries → inner ≡ boxes → es ≡ entries → All (λ (e : Entry). e.item < length inner) es
-items_of_level level boxes inner entries es l e f =
-    subst (λ (bs : List BoundingBox). All (λ (x : Entry). x.item < length bs) es) (sym e)
-    (subst (All (λ (x : Entry). x.item < length boxes)) (sym f) (positions level boxes entries l))
+-- the same of boxes that are known to be others
+pub items_of_level : (level : Level) (boxes inner : List BoundingBox) (b : Bucketed) → IsLevel level boxes b → inner ≡ boxes → All (λ (e : Entry). e.item < length inner) b.entries
+items_of_level level boxes inner b l e =
+    subst (λ (bs : List BoundingBox). All (λ (x : Entry). x.item < length bs) b.entries) (sym e) (positions level boxes b l)
+
+-- boxes, cells and lists that are known to be others
+pub keys_as : (query : Query) (inner boxes : List BoundingBox) (entries : List Entry) (c cells : Cells) (old start found : List ℕ) → inner ≡ boxes → c ≡ cells → old ≡ start → HasKeys (touches query inner) entries (keys_over c) old found → HasKeys (touches query boxes) entries (keys_over cells) start found
+keys_as query inner boxes entries c cells old start found d e f h =
+    subst (λ bs. HasKeys (touches query bs) entries (keys_over cells) start found) d
+    (subst (λ k. HasKeys (touches query inner) entries (keys_over k) start found) e
+    (subst (λ ns. HasKeys (touches query inner) entries (keys_over c) ns found) f h))
 
 -- a box that is searched for and is of a level comes up in that level
-comes_up : (level : Level) (query : Query) (boxes : List BoundingBox) (entries : List Entry) (old found : List ℕ) (i : ℕ) → IsLevel level boxes entries → All LiesInTheBox boxes → LiesByTheBox query.reached →
-    HasAllRows (touches query boxes) entries (cells_over level.side query.reached) old found → i < length boxes → IsTrue (touches query boxes i) → has level (box_at boxes i) ≡ true → Contains found i
-comes_up level query boxes entries old found i l in_box h rows there touch had =
+comes_up : (level : Level) (query : Query) (boxes : List BoundingBox) (b : Bucketed) (old found : List ℕ) (i : ℕ) → IsLevel level boxes b → All LiesInTheBox boxes → LiesByTheBox query.reached →
+    HasKeys (touches query boxes) b.entries (keys_over (cells_over level.side query.reached)) old found → i < length boxes → IsTrue (touches query boxes i) → has level (box_at boxes i) ≡ true → Contains found i
+comes_up level query boxes b old found i l in_box h keys there touch had =
     let f = entry_of_touching_box level query.reached boxes i l.coarse h in_box there (and_parts (nat_le query.from i) (are_within 0 query.reached (box_at boxes i)) touch).1 had in
-    rows.has f.row (entry f.key i) f.within (Contains-permutation (entries_of_boxes level boxes) entries (entry f.key i) l.entered f.there) f.from f.below touch
+    keys.has (entry f.key i) (Contains-permutation (entries_of_boxes level boxes) b.entries (entry f.key i) l.entered f.there) f.of_cells touch
 
 -- what is asked for
 abbrev pub query_of : BoundingBox → ℕ → Query
 query_of reached from = record { reached = reached; from = from }
 
 -- the positions of the boxes that touch the widened box
-pub near_as_touching : (reach : ℕ) (around reached : BoundingBox) (from : ℕ) (inner boxes : List BoundingBox) → reached ≡ widened reach around → inner ≡ boxes → filter (touches (query_of reached from) inner) (range_with_len 0 (length inner)) ≡ near_positions reach around from boxes
-near_as_touching reach around reached from inner boxes e f =
-    (λ t. filter (touches (query_of (e t) from) (f t)) (range_with_len 0 (length (f t))))
-    ∙ (λ t. filter (λ i. nat_le from i && widened_touches reach around (box_at boxes i) t) (range_with_len 0 (length boxes)))
+near_as_touching : (reach : ℕ) (around : BoundingBox) (from : ℕ) (boxes : List BoundingBox) → filter (touches (query_of (widened reach around) from) boxes) (range_with_len 0 (length boxes)) ≡ near_positions reach around from boxes
+near_as_touching reach around from boxes =
+    λ t. filter (λ i. nat_le from i && widened_touches reach around (box_at boxes i) t) (range_with_len 0 (length boxes))
 
--- the same after an empty list
-pub all_as_touching : (reach : ℕ) (around reached : BoundingBox) (from : ℕ) (inner boxes : List BoundingBox) (old found : List ℕ) → reached ≡ widened reach around → inner ≡ boxes → old ≡ [] → found ≡ old ++ filter (touches (query_of reached from) inner) (range_with_len 0 (length inner)) → found ≡ near_positions reach around from boxes
-all_as_touching reach around reached from inner boxes old found e f none is =
+-- the numbers below n that pass a test
+just_those : (p : ℕ → Bool) (n : ℕ) (found : List ℕ) → All (PassesBelow n p) found → ((i : ℕ) → i < n → IsTrue (p i) → Contains found i) → HasJust (filter p (range_with_len 0 n)) found
+just_those p n found pass there = record {
+  each = λ x h.
+      let r = Contains-from_filter p (range_with_len 0 n) x h in
+      there x (All-contains (λ i. i < n) (range_with_len 0 n) x (below n) r.0) r.1;
+  no_other = λ x h.
+      let r = All-contains (PassesBelow n p) found x pass h in
+      Contains-filter p (range_with_len 0 n) x r.passes (Contains-range n x r.below);
+}
+  where
+    below : (n : ℕ) → All (λ i. i < n) (range_with_len 0 n)
+    below n k d l = omega (arith, get_or-range_with_len 0 n k d (omega (arith, length-range_with_len 0 n, l)), length-range_with_len 0 n, l)
+
+-- all boxes in order
+pub all_are_near : (reach : ℕ) (around reached : BoundingBox) (from : ℕ) (inner boxes : List BoundingBox) (old found : List ℕ) → reached ≡ widened reach around → inner ≡ boxes → old ≡ [] → found ≡ old ++ filter (touches (query_of reached from) inner) (range_with_len 0 (length inner)) → HasJust (near_positions reach around from boxes) found
+all_are_near reach around reached from inner boxes old found e f none is =
+    let same : found ≡ near_positions reach around from boxes =
     is
     ∙ ap (λ l. l ++ filter (touches (query_of reached from) inner) (range_with_len 0 (length inner))) none
-    ∙ near_as_touching reach around reached from inner boxes e f
+    ∙ (λ t. filter (touches (query_of (e t) from) (f t)) (range_with_len 0 (length (f t))))
+    ∙ near_as_touching reach around from boxes in
+    record {
+      each = λ x h. subst (λ (xs : List ℕ). Contains xs x) (sym same) h;
+      no_other = λ x h. subst (λ (xs : List ℕ). Contains xs x) same h;
+    }
 
--- the ascending list has the same numbers as what touches in the rows of both levels
-pub ascending_is_filter : (side great_side : ℕ) (query : Query) (boxes : List BoundingBox) (entries great_entries : List Entry) (common items ascending : List ℕ) → IsGrid boxes side entries great_side great_entries → LiesByTheBox query.reached →
-    HasAllRows (touches query boxes) entries (cells_over side query.reached) [] common → HasAllRows (touches query boxes) great_entries (cells_over great_side query.reached) common items →
-    IsStrictlyIncreasing ascending → ((x : ℕ) → Contains items x → Contains ascending x) → ((x : ℕ) → Contains ascending x → Contains items x) →
-    ascending ≡ filter (touches query boxes) (range_with_len 0 (length boxes))
-ascending_is_filter side great_side query boxes entries great_entries common items ascending grid h rows great_rows rises keeps adds =
+-- the boxes of both levels in their cells
+pub levels_are_near : (reach : ℕ) (around reached : BoundingBox) (from side great_side : ℕ) (boxes : List BoundingBox) (common great : Bucketed) (some found : List ℕ) → IsGrid boxes side common great_side great → LiesByTheBox reached → reached ≡ widened reach around →
+    HasKeys (touches (query_of reached from) boxes) common.entries (keys_over (cells_over side reached)) [] some → HasKeys (touches (query_of reached from) boxes) great.entries (keys_over (cells_over great_side reached)) some found →
+    HasJust (near_positions reach around from boxes) found
+levels_are_near reach around reached from side great_side boxes common great some found grid h e in_common in_great =
     let first = level_of false side side in
     let second = level_of true side great_side in
+    let query = query_of reached from in
     let n = length boxes in
     let p = touches query boxes in
-    let pass : All (PassesBelow n p) items =
-    great_rows.only n (positions second boxes great_entries grid.great)
-    (rows.only n (positions first boxes entries grid.common) (λ k d m. absurd (omega (arith, m)))) in
-    is_filter p n ascending rises
-    (λ k d m. All-contains (PassesBelow n p) items (get_or ascending k d) pass (adds (get_or ascending k d) (Contains-get_or ascending k d m)))
-    (λ i there touch. keeps i (elim (cases_Bool (is_great side (box_at boxes i))) [
-      | inl t ↦ comes_up second query boxes great_entries common items i grid.great grid.in_box h great_rows there touch t
-      | inr f ↦ great_rows.kept i (comes_up first query boxes entries [] common i grid.common grid.in_box h rows there touch (ap not f))
-    ]))
+    let pass : All (PassesBelow n p) found =
+    in_great.only n (positions second boxes great grid.great)
+    (in_common.only n (positions first boxes common grid.common) (λ k d m. absurd (omega (arith, m)))) in
+    let there : (i : ℕ) → i < n → IsTrue (p i) → Contains found i = λ i below touch.
+    elim (cases_Bool (is_great side (box_at boxes i))) [
+      | inl t ↦ comes_up second query boxes great some found i grid.great grid.in_box h in_great below touch t
+      | inr f ↦ in_great.kept i (comes_up first query boxes common [] some i grid.common grid.in_box h in_common below touch (ap not f))
+    ] in
+    subst (λ (xs : List ℕ). HasJust xs found)
+    (ap (λ r. filter (touches (query_of r from) boxes) (range_with_len 0 n)) e ∙ near_as_touching reach around from boxes)
+    (just_those p n found pass there)

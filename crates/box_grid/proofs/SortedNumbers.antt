@@ -9,7 +9,7 @@ use Rattle.std.proofs.lemmas.List.Elements.{All-tail}
 use Rattle.std.proofs.lemmas.List.Sorted.{IsNonDecreasingBy-from_default, IsPermutation-map}
 use Rattle.box_grid.specs.declared.entries.Entry.{Entry}
 use Rattle.box_grid.specs.Calls.Cells.{IsSortedForm, entry, entry_of, number_of}
-use Rattle.box_grid.proofs.CommonCells.{div_keeps_order}
+use Rattle.box_grid.proofs.Divisions.{div_keeps_order}
 
 -- an entry and back
 back : (e : Entry) → e.item < 4294967296 → entry_of (number_of e) ≡ e

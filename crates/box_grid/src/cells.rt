@@ -1,13 +1,16 @@
-//! The cells of a uniform grid, by rows along the third axis.
-ghost use Rattle.std.specs.Prelude.{◌≡◌, ◌+◌, ◌-◌, ◌*◌, ◌^◌, ◌<◌, ◌≤◌, ℕ, ℤ, pos, ◌+ℤ◌, ◌-ℤ◌, max, min};
+//! The cells of a uniform grid, and their keys.
+ghost use Rattle.std.specs.Prelude.{◌≡◌, ◌+◌, ◌-◌, ◌<◌, ◌≤◌, ◌++◌, ℕ, ℤ, pos, ◌+ℤ◌, ◌-ℤ◌, IfOk, max, min};
 ghost use Rattle.space3.specs.declared.places.TheConstants.{BOX_LIMIT};
 ghost use Rattle.space3.specs.Vectors.{AtMost, Within};
 ghost use Rattle.space3.specs.Box.{IsInTheBox};
 ghost use Rattle.box_grid.specs.Near.{LiesInTheBox};
-ghost use Rattle.box_grid.specs.Calls.Cells.{AreCells, IsCell, LiesByTheBox, cell_at, cell_of, cells_between, cells_over, lowered, raised, row_key, row_of, widened};
+ghost use Rattle.box_grid.specs.Calls.Cells.{AreCells, IsCell, LiesByTheBox, cell_at, cell_of, cells_between, cells_over, key_of, keys_over, lowered, raised, row_keys, slab_keys, widened};
 
-use crate::limits::{AXIS_LIMIT, LEAST_SIDE, REACH_LIMIT, ROW_KEYS, ROW_STRIDE};
+use crate::limits::{
+    AXIS_LIMIT, FIRST_FACTOR, LEAST_SIDE, REACH_LIMIT, SECOND_FACTOR, THIRD_FACTOR,
+};
 use space3::{BoundingBox, V3};
+use std::alloc::AllocError;
 
 /// A cell of the grid, by its position along each axis.
 #[derive(Clone, Copy)]
@@ -51,23 +54,49 @@ pub(crate) fn cells_over(side: u64, around: &BoundingBox) -> Cells
     cells_between(cell_at(side, around.least), cell_at(side, around.greatest))
 }
 
-/// How many rows of cells there are.
-pub(crate) fn row_count(cells: &Cells) -> u64
-    requires { AreCells cells.now }
-    ensures { result ≡ cells.now.width * cells.now.depth }
-{
-    cells.width * cells.depth
+/// How many cells there are, or the greatest number of its type where that is less.
+pub(crate) fn cell_count(cells: &Cells) -> u64 {
+    cells
+        .width
+        .saturating_mul(cells.depth)
+        .saturating_mul(cells.height)
 }
 
-/// The key of the first cell of a row.
-pub(crate) fn row_of(cells: &Cells, row: u64) -> u32
-    requires cells { AreCells cells.now }
-    requires row { row < cells.now.width * cells.now.depth }
-    ensures value { result ≡ row_of cells.now row }
-    ensures bound { result + cells.now.height < 2 ^ 32 }
+/// Writes the keys of the cells into `keys`, which may hold anything before.
+pub(crate) fn keys_over(cells: &Cells, keys: &mut Vec<u32>) -> Result<(), AllocError>
+    requires { AreCells cells.now }
+    ensures { IfOk result (λ _. keys.new.items ≡ keys_over cells.now) }
 {
-    let key = row_key(cells.x + row / cells.depth, cells.y + row % cells.depth);
-    (key + cells.z) as u32
+    keys.clear();
+    for k in 0..cells.width {
+        append_slab(keys, cells, cells.x + k)?;
+    }
+    Ok(())
+}
+
+// Appends the keys of the cells at this position along the first axis.
+fn append_slab(keys: &mut Vec<u32>, cells: &Cells, x: u64) -> Result<(), AllocError>
+    requires cells { AreCells cells.now }
+    requires x { x < AXIS_LIMIT }
+    ensures { IfOk result (λ _. keys.new.items ≡ keys.old.items ++ slab_keys cells.now x) }
+{
+    for k in 0..cells.depth {
+        append_row(keys, cells, x, cells.y + k)?;
+    }
+    Ok(())
+}
+
+// Appends the keys of the cells at these positions along the first two axes.
+fn append_row(keys: &mut Vec<u32>, cells: &Cells, x: u64, y: u64) -> Result<(), AllocError>
+    requires cells { AreCells cells.now }
+    requires x { x < AXIS_LIMIT }
+    requires y { y < AXIS_LIMIT }
+    ensures { IfOk result (λ _. keys.new.items ≡ keys.old.items ++ row_keys cells.now x y) }
+{
+    for k in 0..cells.height {
+        keys.push(key_of(x, y, cells.z + k))?;
+    }
+    Ok(())
 }
 
 // The cells from one of two cells to the other, along each axis from the lesser to the greater position.
@@ -120,16 +149,18 @@ fn cell_of(side: u64, v: i64) -> u64
     (v + AXIS_LIMIT as i64) as u64 / side
 }
 
-// The number of a row, to which a cell's position along the third axis is added for its key. Cells of rows far apart may
-// have the same key.
-#[tactic(auto, unfolding(crate::specs::Calls::Cells::row_key))]
-fn row_key(x: u64, y: u64) -> u64
+// The key of a cell. Cells far apart may have the same.
+#[tactic(auto, unfolding(crate::specs::Calls::Cells::key_of))]
+fn key_of(x: u64, y: u64, z: u64) -> u32
     requires x { x < AXIS_LIMIT }
     requires y { y < AXIS_LIMIT }
-    ensures value { result ≡ row_key x y }
-    ensures bound { result < ROW_KEYS }
+    requires z { z < AXIS_LIMIT }
+    ensures { result ≡ key_of x y z }
 {
-    (x * u64::from(ROW_STRIDE) + y) * u64::from(ROW_STRIDE) % u64::from(ROW_KEYS)
+    let sum = x * u64::from(FIRST_FACTOR)
+        + y * u64::from(SECOND_FACTOR)
+        + z * u64::from(THIRD_FACTOR);
+    (sum % 4_294_967_296) as u32
 }
 
 fn lowered(corner: V3, reach: u32) -> V3

@@ -1,12 +1,10 @@
 //! Entries of the cells that boxes cover, sorted by the cells' keys.
-ghost use Rattle.std.specs.Prelude.{◌≡◌, ◌+◌, ◌^◌, ◌<◌, ◌≤◌, ◌++◌, IfOk, length, map, All};
-ghost use Rattle.space3.specs.declared.boxes.BoundingBox.{BoundingBox};
+ghost use Rattle.std.specs.Prelude.{◌≡◌, ◌^◌, ◌<◌, ◌≤◌, ◌++◌, IfOk, length, map, All};
 ghost use Rattle.box_grid.specs.declared.entries.Entry.{Entry};
-ghost use Rattle.box_grid.specs.declared.sizes.Level.{Level};
 ghost use Rattle.box_grid.specs.Near.{LiesInTheBox};
-ghost use Rattle.box_grid.specs.Calls.Cells.{AreCells, IsLevel, IsSortedForm, entries_in, entries_of, entries_of_boxes, entry_of, number_of, run_of};
+ghost use Rattle.box_grid.specs.Calls.Cells.{IsSortedForm, entries_in, entries_of_boxes, entry, entry_of, number_of};
 
-use crate::cells::{Cells, cells_over, row_count, row_of};
+use crate::cells::{cells_over, keys_over};
 use crate::limits::LEAST_SIDE;
 use crate::sizes::{Level, has};
 use space3::BoundingBox;
@@ -28,7 +26,8 @@ pub(crate) fn entries_of_boxes(
     requires side { LEAST_SIDE ≤ level.side }
     requires few { length boxes.now < 2 ^ 32 }
     requires in_box { All LiesInTheBox boxes.now }
-    ensures { IfOk result (λ entries. IsLevel level boxes.now entries.items) }
+    ensures { IfOk result (λ entries.
+        IsSortedForm (entries_of_boxes level boxes.now) entries.items) }
 {
     let entries = unsorted_entries(alloc, level, boxes)?;
     sorted_by_key(alloc, &entries)
@@ -46,8 +45,9 @@ fn unsorted_entries(
     ensures { IfOk result (λ entries. entries.items ≡ entries_of_boxes level boxes.now) }
 {
     let mut entries = Vec::new(alloc);
+    let mut keys = Vec::new(alloc);
     for item in 0..boxes.len() {
-        append_box(&mut entries, level, item as u32, &boxes[item])?;
+        append_box(&mut entries, &mut keys, level, item as u32, &boxes[item])?;
     }
     Ok(entries)
 }
@@ -55,6 +55,7 @@ fn unsorted_entries(
 // Appends an entry for each cell of the box, where it is of the level.
 fn append_box(
     entries: &mut Vec<Entry>,
+    keys: &mut Vec<u32>,
     level: Level,
     item: u32,
     around: &BoundingBox,
@@ -65,33 +66,19 @@ fn append_box(
         entries.old.items ++ entries_in level around.now item) }
 {
     if has(level, around) {
-        append_cells(entries, item, &cells_over(level.side, around))?;
+        keys_over(&cells_over(level.side, around), keys)?;
+        append_entries(entries, item, keys)?;
     }
     Ok(())
 }
 
-// Appends an entry for each of the cells.
-fn append_cells(entries: &mut Vec<Entry>, item: u32, cells: &Cells) -> Result<(), AllocError>
-    requires { AreCells cells.now }
+// Appends an entry for each of the keys.
+fn append_entries(entries: &mut Vec<Entry>, item: u32, keys: &[u32]) -> Result<(), AllocError>
     ensures { IfOk result (λ _. entries.new.items ≡
-        entries.old.items ++ entries_of cells.now item) }
+        entries.old.items ++ map (λ key. entry key item) keys.now) }
 {
-    for row in 0..row_count(cells) {
-        append_run(entries, item, row_of(cells, row), cells.height as u32)?;
-    }
-    Ok(())
-}
-
-// Appends an entry for each of so many keys from the first on.
-fn append_run(entries: &mut Vec<Entry>, item: u32, first: u32, many: u32) -> Result<(), AllocError>
-    requires { first + many < 2 ^ 32 }
-    ensures { IfOk result (λ _. entries.new.items ≡ entries.old.items ++ run_of item first many) }
-{
-    for k in 0..many {
-        entries.push(Entry {
-            key: first + k,
-            item,
-        })?;
+    for key in keys {
+        entries.push(Entry { key: *key, item })?;
     }
     Ok(())
 }

@@ -1,39 +1,71 @@
 //! Boxes that are sorted by the cells that they cover.
-ghost use Rattle.std.specs.Prelude.{◌≡◌, ◌<◌, ◌≤◌, ◌^◌, IfOk, All, length};
-ghost use Rattle.box_grid.specs.Near.{LiesInTheBox, near_positions};
+ghost use Rattle.std.specs.Prelude.{◌≡◌, ◌<◌, ◌≤◌, ◌^◌, [], IfOk, All, length};
+ghost use Rattle.box_grid.specs.Near.{HasJust, LiesInTheBox, near_positions};
 
-use crate::cells::{cells_over, row_count, widened};
-use crate::entries::{Entry, entries_of_boxes};
-use crate::limits::{BOXES_A_ROW, REACH_LIMIT};
-use crate::search::{
-    Query, append_all_touching, append_touching_of_level, append_touching_over, keep_ascending,
-};
+use crate::buckets::Buckets;
+use crate::cells::{cell_count, cells_over, widened};
+use crate::limits::{BOXES_A_CELL, REACH_LIMIT};
+use crate::search::{Query, append_all_touching, append_touching_of_level, append_touching_over};
 use crate::sizes::{Level, common_side, great_side};
 use space3::BoundingBox;
 use std::alloc::{AllocError, Global};
 use std::marker::Model;
+
+/// Room that searches are lent, so that they take no memory each: the positions that the last one found.
+#[derive(Drop)]
+pub struct Room {
+    keys: Vec<u32>,
+    found: Vec<u32>,
+}
+
+impl Model for Room {
+    ghost use Rattle.std.specs.Prelude.{ℕ, List};
+
+    ghost Value = { List ℕ };
+
+    ghost view = { λ r. r.found.items };
+}
+
+impl Room {
+    /// Room in which nothing was found.
+    pub fn new(alloc: Global) -> Self
+        ensures { result ≡ [] }
+    {
+        Room {
+            keys: Vec::new(alloc),
+            found: Vec::new(alloc),
+        }
+    }
+
+    /// What the last search found.
+    pub fn found(&self) -> &[u32]
+        ensures { result.now ≡ self.now }
+    {
+        self.found.as_slice()
+    }
+}
 
 /// Boxes in the box of places, and the cells that each covers.
 #[derive(Drop)]
 pub struct BoxGrid {
     boxes: Vec<BoundingBox>,
     side: u64,
-    entries: Vec<Entry>,
+    common: Buckets,
     great_side: u64,
-    great_entries: Vec<Entry>,
+    great: Buckets,
 }
 
 impl Model for BoxGrid {
     ghost use Rattle.std.specs.Prelude.{List};
     ghost use Rattle.space3.specs.declared.boxes.BoundingBox.{BoundingBox};
-    ghost use Rattle.box_grid.specs.Calls.Cells.{IsGrid};
+    ghost use Rattle.box_grid.specs.Calls.Buckets.{IsGrid};
 
     ghost Value = { List BoundingBox };
 
     ghost view = { λ g. g.boxes.items };
 
     ghost invariant = { λ g.
-        IsGrid g.boxes.items g.side g.entries.items g.great_side g.great_entries.items };
+        IsGrid g.boxes.items g.side g.common g.great_side g.great };
 }
 
 impl BoxGrid {
@@ -45,24 +77,24 @@ impl BoxGrid {
     {
         let side = common_side(&boxes, reach);
         let great_side = great_side(&boxes, side);
-        let common = Level {
+        let common_level = Level {
             great: false,
             common: side,
             side,
         };
-        let great = Level {
+        let great_level = Level {
             great: true,
             common: side,
             side: great_side,
         };
-        let entries = entries_of_boxes(alloc, common, &boxes)?;
-        let great_entries = entries_of_boxes(alloc, great, &boxes)?;
+        let common = Buckets::of_boxes(alloc, common_level, &boxes)?;
+        let great = Buckets::of_boxes(alloc, great_level, &boxes)?;
         Ok(BoxGrid {
             boxes,
             side,
-            entries,
+            common,
             great_side,
-            great_entries,
+            great,
         })
     }
 
@@ -75,40 +107,46 @@ impl BoxGrid {
         self.boxes.as_slice()
     }
 
-    /// Writes the positions, from `from` on, of the boxes whose gap to `around` is at most `reach` grid units along each
-    /// axis into `found`, ascending; it may hold anything before. Answers how many boxes were looked at, at least one for
-    /// each of these.
+    /// Finds the positions, from `from` on, of the boxes whose gap to `around` is at most `reach` grid units along each
+    /// axis, in any order and perhaps more than once. The room may hold anything before. Answers how many boxes were
+    /// looked at, at least one for each position that is there.
     pub fn near(
         &self,
         reach: u32,
         around: &BoundingBox,
         from: u32,
-        found: &mut Vec<u32>,
+        room: &mut Room,
     ) -> Result<u64, AllocError>
         requires reach { reach ≤ REACH_LIMIT }
         requires in_box { LiesInTheBox around.now }
-        ensures found { IfOk result (λ _. found.new.items ≡
-            near_positions reach around.now from self.now) }
-        ensures counted { IfOk result (λ looked_at. length found.new.items ≤ looked_at) }
+        ensures found { IfOk result (λ _. HasJust (near_positions reach around.now from self.now) room.new) }
+        ensures counted { IfOk result (λ looked_at. length room.new ≤ looked_at) }
     {
         let query = Query {
             reached: widened(around, reach),
             from,
         };
         let cells = cells_over(self.side, &query.reached);
-        found.clear();
-        if row_count(&cells) > self.boxes.len() as u64 / BOXES_A_ROW {
-            return append_all_touching(&self.boxes, &query, found);
+        room.found.clear();
+        if cell_count(&cells) > self.boxes.len() as u64 / BOXES_A_CELL {
+            return append_all_touching(&self.boxes, &query, &mut room.found);
         }
-        let common = append_touching_over(&self.entries, &cells, &self.boxes, &query, found)?;
+        let common = append_touching_over(
+            &self.common,
+            &cells,
+            &self.boxes,
+            &query,
+            &mut room.keys,
+            &mut room.found,
+        )?;
         let great = append_touching_of_level(
-            &self.great_entries,
+            &self.great,
             self.great_side,
             &self.boxes,
             &query,
-            found,
+            &mut room.keys,
+            &mut room.found,
         )?;
-        keep_ascending(found);
         Ok(common.saturating_add(great))
     }
 }

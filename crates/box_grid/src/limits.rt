@@ -11,18 +11,23 @@ pub(crate) const AXIS_LIMIT: u32 = 2_097_152;
 /// The least side of a cell. With it the positions of cells stay below [`AXIS_LIMIT`].
 pub(crate) const LEAST_SIDE: u64 = 2;
 
-/// The keys of rows of cells are below this, 2^31, and a cell's position along the third axis is added to them. So all keys
-/// are below 2^32.
-pub(crate) const ROW_KEYS: u32 = 2_147_483_648;
+/// What a cell's position along the first axis is multiplied by for its key. The three numbers are large and odd, so that
+/// cells near each other have keys far apart. What is found doesn't depend on them.
+pub(crate) const FIRST_FACTOR: u32 = 2_654_435_761;
 
-/// How far apart the keys of rows next to each other are, about the third root of [`ROW_KEYS`]: where the cells with
-/// boxes are fewer than this along each axis, no two of them have the same key. What is found doesn't depend on it.
-pub(crate) const ROW_STRIDE: u32 = 1289;
+/// The same for the second axis.
+pub(crate) const SECOND_FACTOR: u32 = 2_246_822_519;
+
+/// The same for the third axis.
+pub(crate) const THIRD_FACTOR: u32 = 3_266_489_917;
+
+/// There are no more buckets than this, 2^24.
+pub(crate) const MOST_BUCKETS: u64 = 16_777_216;
 
 /// The longest side of a box is less than this many sides of its level's cells. So it covers at most 9 cells along an
 /// axis, and great boxes make no flood of entries.
 pub(crate) const MOST_SPLIT: u64 = 8;
 
-/// A row of cells is looked up in about the time in which so many boxes are compared. Where the cells over a box have
-/// more rows than are worth it, all boxes are tested in order.
-pub(crate) const BOXES_A_ROW: u64 = 16;
+/// A cell is looked up in about the time in which so many boxes are compared. Where there are more cells over a box than
+/// are worth it, all boxes are tested in order.
+pub(crate) const BOXES_A_CELL: u64 = 8;

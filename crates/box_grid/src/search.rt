@@ -1,12 +1,13 @@
 //! The search for the boxes that touch another one, by the entries of the cells over that one.
-ghost use Rattle.std.specs.Prelude.{◌≡◌, ◌+◌, ◌*◌, ◌^◌, ◌<◌, ◌≤◌, ◌++◌, ◌∷◌, [], ◌&&◌, ℕ, IfOk, length, map, filter, int_le, nat_le, take, All, if◌then◌else◌, slice_index_or};
-ghost use Rattle.std.specs.List.{Contains, range_with_len};
-ghost use Rattle.std.specs.List.Sorted.{IsNonDecreasingBy, IsStrictlyIncreasing};
+ghost use Rattle.std.specs.Prelude.{◌≡◌, ◌+◌, ◌^◌, ◌<◌, ◌≤◌, ◌++◌, ◌∷◌, [], ◌&&◌, IfOk, length, map, filter, int_le, nat_le, All, if◌then◌else◌};
+ghost use Rattle.std.specs.List.{range_with_len};
 ghost use Rattle.space3.specs.Boxes.{are_within};
 ghost use Rattle.box_grid.specs.declared.entries.Entry.{Entry};
-ghost use Rattle.box_grid.specs.Calls.Cells.{AreCells, HasAllRows, HasRun, LiesByTheBox, cells_over, touches};
+ghost use Rattle.box_grid.specs.Calls.Buckets.{HasKeys, IsParted};
+ghost use Rattle.box_grid.specs.Calls.Cells.{AreCells, LiesByTheBox, cells_over, keys_over, touches};
 
-use crate::cells::{Cells, cells_over, row_count, row_of};
+use crate::buckets::Buckets;
+use crate::cells::{Cells, cells_over, keys_over};
 use crate::entries::Entry;
 use crate::limits::LEAST_SIDE;
 use space3::{BoundingBox, V3};
@@ -22,56 +23,70 @@ pub(crate) struct Query {
 /// Appends the positions that are searched for of boxes with entries in the cells of this side over the reached one, in
 /// any order and perhaps more than once. Answers how many entries were looked at.
 pub(crate) fn append_touching_of_level(
-    entries: &[Entry],
+    buckets: &Buckets,
     side: u64,
     boxes: &[BoundingBox],
     query: &Query,
+    keys: &mut Vec<u32>,
     found: &mut Vec<u32>,
 ) -> Result<u64, AllocError>
     requires side { LEAST_SIDE ≤ side }
     requires by_box { LiesByTheBox query.now.reached }
-    requires sorted { IsNonDecreasingBy (λ (e : Entry). e.key) entries.now }
-    requires there { All (λ (e : Entry). e.item < length boxes.now) entries.now }
-    ensures rows { IfOk result (λ _. HasAllRows (touches query.now boxes.now) entries.now
-        (cells_over side query.now.reached) found.old.items found.new.items) }
+    requires parted { IsParted buckets.now.entries buckets.now.starts }
+    requires there { All (λ (e : Entry). e.item < length boxes.now) buckets.now.entries }
+    ensures keys { IfOk result (λ _. HasKeys (touches query.now boxes.now) buckets.now.entries
+        (keys_over (cells_over side query.now.reached)) found.old.items found.new.items) }
     ensures tested { IfOk result (λ tested.
         length found.new.items ≤ length found.old.items + tested) }
 {
-    if entries.is_empty() {
+    if buckets.is_empty() {
         return Ok(0);
     }
     let cells = cells_over(side, &query.reached);
-    append_touching_over(entries, &cells, boxes, query, found)
+    append_touching_over(buckets, &cells, boxes, query, keys, found)
 }
 
 /// The same for the entries in these cells.
 pub(crate) fn append_touching_over(
-    entries: &[Entry],
+    buckets: &Buckets,
     cells: &Cells,
+    boxes: &[BoundingBox],
+    query: &Query,
+    keys: &mut Vec<u32>,
+    found: &mut Vec<u32>,
+) -> Result<u64, AllocError>
+    requires cells { AreCells cells.now }
+    requires parted { IsParted buckets.now.entries buckets.now.starts }
+    requires there { All (λ (e : Entry). e.item < length boxes.now) buckets.now.entries }
+    ensures keys { IfOk result (λ _. HasKeys (touches query.now boxes.now) buckets.now.entries
+        (keys_over cells.now) found.old.items found.new.items) }
+    ensures tested { IfOk result (λ tested.
+        length found.new.items ≤ length found.old.items + tested) }
+{
+    keys_over(cells, keys)?;
+    append_touching_with(buckets, keys, boxes, query, found)
+}
+
+// The same for the entries with these keys.
+fn append_touching_with(
+    buckets: &Buckets,
+    keys: &[u32],
     boxes: &[BoundingBox],
     query: &Query,
     found: &mut Vec<u32>,
 ) -> Result<u64, AllocError>
-    requires sorted { IsNonDecreasingBy (λ (e : Entry). e.key) entries.now }
-    requires cells { AreCells cells.now }
-    requires there { All (λ (e : Entry). e.item < length boxes.now) entries.now }
-    ensures rows { IfOk result (λ _. HasAllRows (touches query.now boxes.now) entries.now
-        cells.now found.old.items found.new.items) }
+    requires parted { IsParted buckets.now.entries buckets.now.starts }
+    requires there { All (λ (e : Entry). e.item < length boxes.now) buckets.now.entries }
+    ensures keys { IfOk result (λ _. HasKeys (touches query.now boxes.now) buckets.now.entries
+        keys.now found.old.items found.new.items) }
     ensures tested { IfOk result (λ tested.
         length found.new.items ≤ length found.old.items + tested) }
 {
     let mut tested = 0u64;
-    for row in 0..row_count(cells) {
-        let first = row_of(cells, row);
-        let more = append_touching_of_run(
-            entries,
-            first,
-            cells.height as u32,
-            boxes,
-            query,
-            found,
-        )?;
-        tested = tested.saturating_add(more as u64);
+    for key in keys {
+        let part = buckets.with_key(*key);
+        append_touching_of(part, boxes, query, found)?;
+        tested = tested.saturating_add(part.len() as u64);
     }
     Ok(tested)
 }
@@ -95,75 +110,24 @@ pub(crate) fn append_all_touching(
     Ok(boxes.len() as u64)
 }
 
-/// Sorts the items and keeps each once.
-pub(crate) fn keep_ascending(items: &mut Vec<u32>)
-    ensures rises { IsStrictlyIncreasing items.new.items }
-    ensures keeps { (x : ℕ) → Contains items.old.items x → Contains items.new.items x }
-    ensures adds_none { (x : ℕ) → Contains items.new.items x → Contains items.old.items x }
-    ensures no_more { length items.new.items ≤ length items.old.items }
-{
-    items.sort_unstable();
-    items.dedup();
-}
-
-// Appends the same of the entries whose keys are `first` or one of the next, `many` in all.
-fn append_touching_of_run(
+// Appends the same of these entries.
+fn append_touching_of(
     entries: &[Entry],
-    first: u32,
-    many: u32,
     boxes: &[BoundingBox],
     query: &Query,
     found: &mut Vec<u32>,
-) -> Result<usize, AllocError>
-    requires sorted { IsNonDecreasingBy (λ (e : Entry). e.key) entries.now }
-    requires keys { first + many < 2 ^ 32 }
-    requires there { All (λ (e : Entry). e.item < length boxes.now) entries.now }
-    ensures run { IfOk result (λ _. HasRun (touches query.now boxes.now) entries.now
-        first (first + many) found.old.items found.new.items) }
-    ensures tested { IfOk result (λ tested.
-        length found.new.items ≤ length found.old.items + tested) }
+) -> Result<(), AllocError>
+    requires { All (λ (e : Entry). e.item < length boxes.now) entries.now }
+    ensures items { IfOk result (λ _. found.new.items ≡ found.old.items
+        ++ filter (touches query.now boxes.now) (map (λ e. e.item) entries.now)) }
+    ensures tested { IfOk result (λ _.
+        length found.new.items ≤ length found.old.items + length entries.now) }
 {
-    let start = count_below(entries, first);
-    let (_, rest) = entries.split_at(start);
-    append_touching_below(rest, first + many, boxes, query, found)
-}
-
-// How many entries have keys below this one: those at the front.
-fn count_below(entries: &[Entry], key: u32) -> usize
-    requires { IsNonDecreasingBy (λ (e : Entry). e.key) entries.now }
-    ensures bound { result ≤ length entries.now }
-    ensures below { (k : ℕ) (d : Entry) → k < result → (slice_index_or entries.now k d).key < key }
-    ensures rest { (k : ℕ) (d : Entry) → result ≤ k → k < length entries.now →
-        key ≤ (slice_index_or entries.now k d).key }
-{
-    entries.partition_point(|e| e.key < key)
-}
-
-// Appends the same of the entries with keys below `past`, those at the front. Answers how many these are.
-fn append_touching_below(
-    entries: &[Entry],
-    past: u32,
-    boxes: &[BoundingBox],
-    query: &Query,
-    found: &mut Vec<u32>,
-) -> Result<usize, AllocError>
-    requires sorted { IsNonDecreasingBy (λ (e : Entry). e.key) entries.now }
-    requires there { All (λ (e : Entry). e.item < length boxes.now) entries.now }
-    ensures rest { IfOk result (λ n. (k : ℕ) (d : Entry) → n ≤ k → k < length entries.now →
-        past ≤ (slice_index_or entries.now k d).key) }
-    ensures items { IfOk result (λ n. found.new.items ≡ found.old.items
-        ++ filter (touches query.now boxes.now) (map (λ e. e.item) (take n entries.now))) }
-    ensures tested { IfOk result (λ n. length found.new.items ≤ length found.old.items + n) }
-{
-    for k in 0..entries.len() {
-        let entry = entries[k];
-        if past <= entry.key {
-            return Ok(k);
-        }
+    for entry in entries {
         let wanted = is_wanted(query, entry.item, &boxes[entry.item as usize]);
         append_where(wanted, entry.item, found)?;
     }
-    Ok(entries.len())
+    Ok(())
 }
 
 fn append_where(wanted: bool, position: u32, found: &mut Vec<u32>) -> Result<(), AllocError>

@@ -1,8 +1,10 @@
 mod BoxesInTheBox
 mod CloseBoxes
-pub mod CloseCounts
 mod Counts
-pub mod KeptAll
 mod PlacedParts
+pub mod AscendingRows
+pub mod CloseCounts
+pub mod KeptAll
 pub mod RowsOfPairs
+pub mod SameFilter
 pub mod Untouched

@@ -1,11 +1,9 @@
 -- The near pairs by their first parts are a filter of the pair order.
-use Rattle.std.proofs.Common.{◌≡◌, ◌∙◌, ℕ, ◌+◌, ◌<◌, Bool, true, false, ◌&&◌, cond, List, [], ◌∷◌, ◌++◌, map, length, get_or, ap, sym, subst, refl, append_assoc, arith}
+use Rattle.std.proofs.Common.{◌≡◌, ◌∙◌, ℕ, ◌+◌, Bool, true, false, ◌&&◌, cond, List, [], ◌∷◌, ◌++◌, map, length, get_or, ap, sym, refl, append_assoc, arith}
 use Rattle.std.specs.Prelude.{nat_le, not}
-use Rattle.std.specs.List.{All, filter, flat_map, range_with_len}
+use Rattle.std.specs.List.{filter, flat_map, range_with_len}
 use Rattle.std.proofs.Math.ListN.{get_or-map}
 use Rattle.std.proofs.lemmas.List.{length-map}
-use Rattle.std.proofs.lemmas.List.Elements.{All-filter}
-use Rattle.list_laws.proofs.CountedWrites.{All-counted}
 use Rattle.list_laws.proofs.Filters.{filter-flat_map, filter-map}
 use Rattle.list_laws.proofs.Pushes.{flat_map_counted_more}
 use Rattle.space3.specs.declared.boxes.BoundingBox.{BoundingBox}
@@ -16,7 +14,7 @@ use Rattle.boundary.specs.declared.pairs.PairKind.{PairKind}
 use Rattle.boundary.specs.declared.pairs.PairKind.TheVariants.{VE, VT, EE, ET}
 use Rattle.boundary.specs.Pairs.{all_pairs, counts, first_parts, is_in_order, kinds, pair_of, pairs_of_kind, part_pair, second_parts, share_node}
 use Rattle.boundary.specs.Surface.{SurfaceLists}
-use Rattle.box_grid.specs.Near.{box_at, near_positions}
+use Rattle.box_grid.specs.Near.{box_at}
 use Rattle.broad_grid.specs.declared.near.FirstPart.{FirstPart}
 use Rattle.broad_grid.specs.NearPairs.{are_boxes_within, close_pairs_of, is_close}
 use Rattle.broad_grid.specs.PartBoxes.{part_box, swept_box}
@@ -35,7 +33,7 @@ and_false true = refl
 and_false false = refl
 
 -- a filter of a filter
-filter-filter : {A : Type 0} (p q : A → Bool) (xs : List A) → filter p (filter q xs) ≡ filter (λ x. p x && q x) xs
+pub filter-filter : {A : Type 0} (p q : A → Bool) (xs : List A) → filter p (filter q xs) ≡ filter (λ x. p x && q x) xs
 filter-filter p q [] = refl
 filter-filter {A = A} p q (x ∷ xs) =
     one (q x)
@@ -167,13 +165,6 @@ close_as_near reach s x =
     ∙ sym (filter-flat_map close (pairs_of_kind s) kinds)
 
 -- ---- the walk
--- near positions are those of second parts
-pub near_are_there : (reach : ℕ) (around : BoundingBox) (from : ℕ) (boxes : List BoundingBox) (found list : List ℕ) (n : ℕ) → found ≡ near_positions reach around from boxes → list ≡ found → length boxes ≡ n → All (λ b. b < n) list
-near_are_there reach around from boxes found list n is same many =
-    subst (All (λ b. b < n)) (sym (same ∙ is))
-    (All-filter (λ i. nat_le from i && are_within reach around (box_at boxes i)) (λ b. b < n) (range_with_len 0 (length boxes))
-    (All-counted (λ b. b < n) (length boxes) (λ b l. omega (arith, many))))
-
 -- one row more
 pub rows_more : (row : ℕ → List Pair) (a : ℕ) (start before after last : List Pair) → before ≡ start ++ flat_map row (range_with_len 0 a) → last ≡ row a → after ≡ before ++ last → after ≡ start ++ flat_map row (range_with_len 0 (a + 1))
 rows_more row a start before after last so_far is pushed =

@@ -1,19 +1,22 @@
 //! The walk over first parts, for each of which a grid gives the second parts that are near.
-ghost use Rattle.std.specs.Prelude.{◌≡◌, ◌<◌, ◌≤◌, ◌+◌, ◌^◌, ◌++◌, ◌∷◌, [], IfOk, All, length, if◌then◌else◌};
+ghost use Rattle.std.specs.Prelude.{◌≡◌, ◌<◌, ◌≤◌, ◌+◌, ◌^◌, ◌++◌, ◌∷◌, [], IfOk, All, List, ℕ, filter, length, map, not, if◌then◌else◌};
+ghost use Rattle.std.specs.List.{Contains};
+ghost use Rattle.std.specs.List.Sorted.{IsStrictlyIncreasing};
 ghost use Rattle.space3.specs.Mesh.{HasNodes};
-ghost use Rattle.boundary.specs.Pairs.{first_parts, pair_of, second_parts};
+ghost use Rattle.boundary.specs.Pairs.{first_parts, has_node, pair_of, second_parts, share_node};
 ghost use Rattle.box_grid.specs.Near.{LiesInTheBox};
 ghost use Rattle.box_grid.specs.declared.limits.TheConstants.{REACH_LIMIT};
 ghost use Rattle.broad_grid.specs.Calls.Counts.{HasCounted};
-ghost use Rattle.broad_grid.specs.Calls.Rows.{AreFirst, HasAsMany, IsFirst, least_second, near_row, near_rows, near_rows_of_kinds, pairs_with};
+ghost use Rattle.broad_grid.specs.Calls.Rows.{AreFirst, HasAsMany, IsFirst, are_apart, is_apart_from, least_second, near_row, near_rows, near_rows_of_kinds};
 ghost use Rattle.broad_grid.specs.Calls.Walk.{near_pairs_of};
 
 use crate::boxes::{PartBoxes, first_boxes, part_boxes, second_grid};
 use crate::list::PairList;
 use boundary::{Pair, PairKind, Surface};
-use box_grid::BoxGrid;
+use box_grid::{BoxGrid, Room};
 use space3::{BoundingBox, Places};
 use std::alloc::{AllocError, Global};
+use std::slice::from_ref;
 
 /// How many boxes were looked at in search of near ones. The number stays at the greatest of its type once it is there.
 #[derive(Clone, Copy, Debug, PartialEq, Eq)]
@@ -27,6 +30,13 @@ pub(crate) struct FirstPart {
     pub kind: PairKind,
     pub a: u32,
     pub around: BoundingBox,
+}
+
+/// Room for what a search finds, and for those of the second parts that count.
+#[derive(Drop)]
+struct Search {
+    room: Room,
+    seconds: Vec<u32>,
 }
 
 /// The pairs of these kinds whose parts' boxes are within the reach, where each box holds the corners of its part at
@@ -50,8 +60,19 @@ pub(crate) fn near_pairs(
 {
     let boxes = part_boxes(alloc, surface, x0, x1, reach)?;
     let mut pairs = Vec::new(alloc);
-    let mut found = Vec::new(alloc);
-    append_kinds(surface, &boxes, kinds, reach, &mut found, tests, &mut pairs)?;
+    let mut search = Search {
+        room: Room::new(alloc),
+        seconds: Vec::new(alloc),
+    };
+    append_kinds(
+        surface,
+        &boxes,
+        kinds,
+        reach,
+        &mut search,
+        tests,
+        &mut pairs,
+    )?;
     Ok(PairList::of_vec(pairs))
 }
 
@@ -61,7 +82,7 @@ fn append_kinds(
     boxes: &PartBoxes,
     kinds: &[PairKind],
     reach: u32,
-    found: &mut Vec<u32>,
+    search: &mut Search,
     tests: &mut BoxTests,
     pairs: &mut Vec<Pair>,
 ) -> Result<(), AllocError>
@@ -76,7 +97,7 @@ fn append_kinds(
     for kind in kinds {
         let firsts = first_boxes(boxes, *kind);
         let grid = second_grid(boxes, *kind);
-        append_rows(surface, *kind, firsts, grid, reach, found, tests, pairs)?;
+        append_rows(surface, *kind, firsts, grid, reach, search, tests, pairs)?;
     }
     Ok(())
 }
@@ -88,7 +109,7 @@ fn append_rows(
     firsts: &[BoundingBox],
     grid: &BoxGrid,
     reach: u32,
-    found: &mut Vec<u32>,
+    search: &mut Search,
     tests: &mut BoxTests,
     pairs: &mut Vec<Pair>,
 ) -> Result<(), AllocError>
@@ -107,7 +128,7 @@ fn append_rows(
             a: a as u32,
             around: firsts[a],
         };
-        append_row(surface, first, grid, reach, found, tests, pairs)?;
+        append_row(surface, first, grid, reach, search, tests, pairs)?;
     }
     Ok(())
 }
@@ -118,7 +139,7 @@ fn append_row(
     first: FirstPart,
     grid: &BoxGrid,
     reach: u32,
-    found: &mut Vec<u32>,
+    search: &mut Search,
     tests: &mut BoxTests,
     pairs: &mut Vec<Pair>,
 ) -> Result<(), AllocError>
@@ -131,9 +152,12 @@ fn append_row(
     ensures counted { IfOk result (λ _. HasCounted tests.old.n tests.new.n
         (length pairs.old.items) (length pairs.new.items)) }
 {
-    let looked_at = grid.near(reach, &first.around, least_second(first), found)?;
+    let looked_at = grid.near(reach, &first.around, least_second(first), &mut search.room)?;
     tests.n = tests.n.saturating_add(looked_at);
-    append_pairs(surface, first, found, pairs)
+    search.seconds.clear();
+    append_apart(surface, first, search.room.found(), &mut search.seconds)?;
+    keep_ascending(&mut search.seconds);
+    append_pairs(first, &search.seconds, pairs)
 }
 
 // Below this position no second part counts with this first one: of two edges the lower one is first.
@@ -147,49 +171,109 @@ fn least_second(first: FirstPart) -> u32
     }
 }
 
-// Appends the pairs of a first part with those of these second parts that count.
-fn append_pairs(
+// Appends those of the second parts found that have no node of the first part.
+fn append_apart(
     surface: &Surface,
     first: FirstPart,
-    seconds: &[u32],
-    pairs: &mut Vec<Pair>,
+    found: &[u32],
+    seconds: &mut Vec<u32>,
 ) -> Result<(), AllocError>
     requires first { IsFirst surface.now first }
-    requires there { All (λ b. b < length (second_parts surface.now first.kind)) seconds.now }
-    ensures pairs { IfOk result (λ _. pairs.new.items ≡
-        pairs.old.items ++ pairs_with surface.now first seconds.now) }
+    requires there { All (λ b. b < length (second_parts surface.now first.kind)) found.now }
+    ensures seconds { IfOk result (λ _. seconds.new.items ≡ seconds.old.items
+        ++ filter (are_apart surface.now first.kind first.a) found.now) }
     ensures no_more { IfOk result (λ _.
-        length pairs.new.items ≤ length pairs.old.items + length seconds.now) }
+        length seconds.new.items ≤ length seconds.old.items + length found.now) }
 {
-    for b in seconds {
-        let wanted = surface.counts(first.kind, first.a as usize, *b as usize);
-        append_where(wanted, pair_with(first, *b), pairs)?;
+    let a = first.a as usize;
+    match first.kind {
+        PairKind::VE => append_apart_from(
+            from_ref(&surface.vertices()[a]),
+            surface.edges(),
+            found,
+            seconds,
+        ),
+        PairKind::VT => append_apart_from(
+            from_ref(&surface.vertices()[a]),
+            surface.triangles(),
+            found,
+            seconds,
+        ),
+        PairKind::EE => append_apart_from(&surface.edges()[a], surface.edges(), found, seconds),
+        PairKind::ET => append_apart_from(&surface.edges()[a], surface.triangles(), found, seconds),
+    }
+}
+
+// The same of parts of one kind, by their nodes.
+fn append_apart_from<const N: usize>(
+    nodes: &[u32],
+    parts: &[[u32; N]],
+    found: &[u32],
+    seconds: &mut Vec<u32>,
+) -> Result<(), AllocError>
+    requires { All (λ b. b < length parts.now) found.now }
+    ensures seconds { IfOk result (λ _. seconds.new.items ≡ seconds.old.items
+        ++ filter (is_apart_from parts.now nodes.now) found.now) }
+    ensures no_more { IfOk result (λ _.
+        length seconds.new.items ≤ length seconds.old.items + length found.now) }
+{
+    for b in found {
+        let apart = !share_node(nodes, &parts[*b as usize]);
+        append_where(apart, *b, seconds)?;
     }
     Ok(())
 }
 
-fn pair_with(first: FirstPart, b: u32) -> Pair
-    ensures { result ≡ pair_of first.kind first.a b }
+fn share_node(left: &[u32], right: &[u32]) -> bool
+    ensures { result ≡ share_node (record { left = left.now; right = right.now }) }
 {
-    Pair {
-        kind: first.kind,
-        a: first.a,
-        b,
-    }
+    left.iter().any(|x| has_node(right, *x))
 }
 
-/// Appends a pair where it is wanted.
-pub(crate) fn append_where(
+fn has_node(nodes: &[u32], node: u32) -> bool
+    ensures { result ≡ has_node nodes.now node }
+{
+    nodes.iter().any(|other| node == *other)
+}
+
+// Sorts the positions and keeps each once.
+fn keep_ascending(positions: &mut Vec<u32>)
+    ensures rises { IsStrictlyIncreasing positions.new.items }
+    ensures keeps { (x : ℕ) → Contains positions.old.items x → Contains positions.new.items x }
+    ensures adds_none { (x : ℕ) → Contains positions.new.items x → Contains positions.old.items x }
+    ensures no_more { length positions.new.items ≤ length positions.old.items }
+{
+    positions.sort_unstable();
+    positions.dedup();
+}
+
+// Appends the pairs of a first part with these second parts.
+fn append_pairs(first: FirstPart, seconds: &[u32], pairs: &mut Vec<Pair>) -> Result<(), AllocError>
+    ensures { IfOk result (λ _. pairs.new.items ≡
+        pairs.old.items ++ map (pair_of first.kind first.a) seconds.now) }
+{
+    for b in seconds {
+        pairs.push(Pair {
+            kind: first.kind,
+            a: first.a,
+            b: *b,
+        })?;
+    }
+    Ok(())
+}
+
+/// Appends an item where it is wanted.
+pub(crate) fn append_where<T: Copy>(
     wanted: bool,
-    pair: Pair,
-    pairs: &mut Vec<Pair>,
+    item: T,
+    list: &mut Vec<T>,
 ) -> Result<(), AllocError>
-    ensures pairs { IfOk result (λ _. pairs.new.items ≡
-        pairs.old.items ++ (if wanted then pair ∷ [] else [])) }
-    ensures one { IfOk result (λ _. length pairs.new.items ≤ length pairs.old.items + 1) }
+    ensures list { IfOk result (λ _. list.new.items ≡
+        list.old.items ++ (if wanted then item ∷ [] else [])) }
+    ensures one { IfOk result (λ _. length list.new.items ≤ length list.old.items + 1) }
 {
     if wanted {
-        pairs.push(pair)?;
+        list.push(item)?;
     }
     Ok(())
 }

@@ -1,11 +1,11 @@
 -- The near pairs by their first parts.
-use Rattle.std.specs.Prelude.{ℕ, ◌≡◌, ◌+◌, ◌<◌, ◌^◌, List, All, length, map, filter}
+use Rattle.std.specs.Prelude.{ℕ, ◌≡◌, ◌+◌, ◌<◌, ◌^◌, Bool, List, [], All, length, map, filter, not, slice_index_or}
 use Rattle.std.specs.List.{flat_map, range_with_len}
 use Rattle.space3.specs.declared.boxes.BoundingBox.{BoundingBox}
 use Rattle.boundary.specs.declared.pairs.Pair.{Pair}
 use Rattle.boundary.specs.declared.pairs.PairKind.{PairKind}
 use Rattle.boundary.specs.declared.pairs.PairKind.TheVariants.{VE, VT, EE, ET}
-use Rattle.boundary.specs.Pairs.{counts, first_parts, pair_of, second_parts}
+use Rattle.boundary.specs.Pairs.{counts, first_parts, pair_of, part_pair, second_parts, share_node}
 use Rattle.boundary.specs.Surface.{SurfaceLists}
 use Rattle.box_grid.specs.Near.{LiesInTheBox, box_at, near_positions}
 use Rattle.broad_grid.specs.declared.near.FirstPart.{FirstPart}
@@ -32,6 +32,14 @@ pub record HasAsMany (s : SurfaceLists) (boxes : BoxesOfParts) : Type 0 where
 abbrev pub pairs_with : SurfaceLists → FirstPart → List ℕ → List Pair
 pairs_with s first seconds =
     map (pair_of first.kind first.a) (filter (λ b. counts s (pair_of first.kind first.a b)) seconds)
+
+-- those of some parts, by their positions, that have none of these nodes
+abbrev pub is_apart_from : List (List ℕ) → List ℕ → ℕ → Bool
+is_apart_from parts nodes b = not (share_node (record { left = nodes; right = slice_index_or parts b [] }))
+
+-- a first and a second part have no common node
+abbrev pub are_apart : SurfaceLists → PairKind → ℕ → ℕ → Bool
+are_apart s kind a b = not (share_node (part_pair s (pair_of kind a b)))
 
 -- below this position no second part counts with a first one
 abbrev pub least_second : PairKind → ℕ → ℕ

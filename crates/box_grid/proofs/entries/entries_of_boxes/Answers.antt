@@ -1,7 +1,7 @@
 use Rattle.std.proofs.Common.{◌∙◌, ◌<◌, ◌^◌, sym, subst, arith}
 use Rattle.std.specs.List.{All}
 use Rattle.box_grid.specs.declared.entries.Entry.{Entry}
-use Rattle.box_grid.proofs.CellRows.{items_below}
+use Rattle.box_grid.proofs.KeysOfCells.{items_below}
 use Rattle.box_grid.proofs.entries.entries_of_boxes.Goals as goal
 
 pub sorted_by_key-requires : goal.sorted_by_key-requires

@@ -1,6 +1,24 @@
-use Rattle.broad_grid.proofs.RowsOfPairs.{near_are_there}
+use Rattle.std.proofs.Common.{◌∙◌, ◌++◌, ap, map}
+use Rattle.std.specs.List.{filter}
+use Rattle.std.proofs.lemmas.Result.{IfOk-weaker}
+use Rattle.boundary.specs.Pairs.{pair_of}
+use Rattle.broad_grid.specs.Calls.Rows.{are_apart}
+use Rattle.broad_grid.proofs.AscendingRows.{found_are_there, row_is}
 use Rattle.broad_grid.proofs.near.append_row.Goals as goal
 
-pub append_pairs-requires-clause-there : goal.append_pairs-requires-clause-there
-append_pairs-requires-clause-there c =
-    near_are_there c.args.reach c.args.first.around _ c.args.grid.now c.near.new.found.items c.deref.result.now _ c.in_ok-looked_at.ensures.found c.deref.ensures.value c.requires.seconds
+pub append_apart-requires-clause-there : goal.append_apart-requires-clause-there
+append_apart-requires-clause-there c =
+    found_are_there c.args.reach c.args.first.around c.least_second.result c.args.grid.now c.near.new.room c.found.result.now _ c.in_ok-looked_at.ensures.found c.found.ensures c.requires.seconds
+
+pub returns-clause-pairs : goal.returns-clause-pairs
+returns-clause-pairs c =
+    let s = c.args.surface.now in
+    let first = c.args.first in
+    let kept = c.keep_ascending.ensures in
+    let row =
+    row_is c.args.reach s first c.args.grid.now c.least_second.result c.near.new.room c.append_apart.new.seconds.items c.keep_ascending.new.positions.items c.least_second.ensures c.in_ok-looked_at.ensures.found
+    (c.in_ok-append_apart.ensures.seconds ∙ (λ i. c.clear.ensures.items i ++ filter (are_apart s first.kind first.a) (c.found.ensures i)))
+    kept.rises kept.keeps kept.adds_none in
+    IfOk-weaker c.append_pairs.result (λ _. _) (λ _. _)
+    (λ _ is. is ∙ ap (λ l. c.args.pairs.now.items ++ l) (ap (map (pair_of first.kind first.a)) c.deref.ensures.value ∙ row))
+    c.append_pairs.ensures

@@ -3,7 +3,7 @@ use Rattle.std.proofs.lemmas.List.Filters.{dedup_is}
 use Rattle.std.proofs.lemmas.List.Kept.{Contains-dedup_nat, Contains-from_dedup}
 use Rattle.std.proofs.lemmas.List.Sorted.{Contains-permutation, IsPermutation-sym}
 use Rattle.std.proofs.lemmas.Map.Keys.{IsStrictlyIncreasing-dedup}
-use Rattle.box_grid.proofs.search.keep_ascending.Goals as goal
+use Rattle.broad_grid.proofs.near.keep_ascending.Goals as goal
 
 pub returns : goal.returns
 returns c =
