@@ -40,7 +40,8 @@ pub(crate) fn keep_near_pairs(
 ) -> Result<Kept, AllocError>
     requires built { IsSetup setup.now }
     requires pose { IsUpright setup.now now.now }
-    ensures { IfOk result (AreNearPairs setup.now) }
+    ensures near { IfOk result (AreNearPairs setup.now) }
+    ensures places { IfOk result (λ kept. kept.places ≡ now.now) }
 {
     let dhat = setup.numbers.dhat as u32;
     Kept::open(alloc, &setup.surface, now, dhat, dhat)

@@ -1,5 +1,5 @@
 //! The terms of a frame.
-ghost use Rattle.std.specs.Prelude.{◌≡◌, ◌≤◌, ◌^◌, IfOk, OnErr, OnOk, All, ◌*◌, length, map, ◌++◌};
+ghost use Rattle.std.specs.Prelude.{◌≡◌, ◌≤◌, ◌^◌, IfOk, IsTrue, OnErr, OnOk, All, ◌*◌, length, map, ◌++◌};
 ghost use Rattle.std.specs.List.{range_with_len};
 ghost use Rattle.surface_mesh.specs.declared.ranges.TheConstants.{FARTHEST_BEFORE};
 ghost use Rattle.space3.specs.Vectors.{AtMost, Within};
@@ -11,6 +11,7 @@ ghost use Rattle.potential_sum.specs.Calls.Kept.{MayStand, elastic_in};
 ghost use Rattle.potential_sum.specs.Calls.Sums.{AreLight, node_sums};
 ghost use Rattle.potential_sum.specs.Contributions.{elastic_contribution};
 ghost use Rattle.potential_sum.specs.Upright.{IsUpright};
+ghost use Rattle.broad_grid.specs.Kept.{have_stayed};
 ghost use Rattle.block_rows.specs.Stored.{nodes_of, table_of};
 ghost use Rattle.potential_sum.specs.Matrix.{matrix};
 ghost use Rattle.potential_sum.specs.Potential.{gradient, potential};
@@ -104,13 +105,16 @@ impl Terms {
     }
 
     /// Goes on where the nodes stand at `x`, as for [`Terms::energy`]: where one has moved by more than dhat from its
-    /// kept place, the near pairs at `x` are kept from now on. Nothing else changes.
+    /// kept place, the near pairs at `x` are kept from now on, so that the close pairs there are found among the kept
+    /// ones. Nothing else changes.
     pub fn follow(&mut self, alloc: Global, setup: &Setup, x: &Places) -> Result<(), AllocError>
         requires built { IsSetup setup.now }
         requires stand { StandFor setup.now self.old }
         requires pose { IsUpright setup.now x.now }
         ensures frame { self.new.frame ≡ self.old.frame }
         ensures stand { StandFor setup.now self.new }
+        ensures stayed { IfOk result (λ _. IsTrue
+            (have_stayed self.new.near_pairs.margin self.new.near_pairs.places x.now)) }
     {
         if !self.kept.have_stayed(x) {
             self.kept = keep_near_pairs(alloc, setup, x)?;
