@@ -11,6 +11,7 @@ pub mod Parts
 pub mod PullSums
 pub mod SmallBlocks
 pub mod Standing
+pub mod StayingPlaces
 pub mod Stiffness
 pub mod Targets
 pub mod VectorSums

@@ -33,14 +33,14 @@ pub(crate) struct Body {
     pub element: Element,
 }
 
-// The tetrahedra of a setup, in the order of their least nodes.
+// The tetrahedra of a setup, in the order of a curve through space.
 pub(crate) fn bodies_of(alloc: Global, setup: &Setup) -> Result<Vec<Body>, AllocError>
     requires built { IsSetup setup.now }
     requires sturdy { IsSturdy setup.now }
     ensures { IfOk result (λ made.
         IsPermutation (elastic_tets setup.now) (map elastic_in made.items)) }
 {
-    let turns = turns_of(alloc, setup.mesh.tets.items())?;
+    let turns = turns_of(alloc, &setup.mesh.places, setup.mesh.tets.items())?;
     bodies_in_turns(alloc, setup, turns.as_slice())
 }
 

@@ -2,51 +2,76 @@
 ghost use Rattle.std.specs.Prelude.{◌≡◌, ◌<◌, ◌≤◌, IfOk, All, length, map};
 ghost use Rattle.std.specs.List.{range_with_len};
 ghost use Rattle.std.specs.List.Sorted.{IsPermutation};
+ghost use Rattle.space3.specs.Mesh.{HasNodes};
 
-use space3::Tet;
+use space3::{Places, Tet, V3};
 use std::alloc::{AllocError, Global};
 
-/// A tetrahedron, by its position, and the least of its nodes.
+/// A tetrahedron, by its position, and how far along the curve its first corner is.
 #[derive(Clone, Copy)]
 pub(crate) struct Turn {
-    pub least: u32,
+    pub along: u64,
     pub tet: u32,
 }
 
-// The tetrahedra in the order of their least nodes, so that in memory what one asks for is near what the next does.
-pub(crate) fn turns_of(alloc: Global, tets: &[Tet]) -> Result<Vec<Turn>, AllocError>
-    requires { length tets.now ≤ 65536 }
+// The tetrahedra in the order of Morton's curve through space (G. M. Morton, 1966), so that in memory what one adds to is
+// near what the next does, however the nodes are numbered.
+pub(crate) fn turns_of(
+    alloc: Global,
+    places: &Places,
+    tets: &[Tet],
+) -> Result<Vec<Turn>, AllocError>
+    requires few { length tets.now ≤ 65536 }
+    requires there { All (λ tet. HasNodes places.now tet.nodes) tets.now }
     ensures each { IfOk result (λ turns.
         IsPermutation (range_with_len 0 (length tets.now)) (map (λ turn. turn.tet) turns.items)) }
     ensures there { IfOk result (λ turns. All (λ turn. turn.tet < length tets.now) turns.items) }
 {
-    let mut turns = turns_in_order(alloc, tets)?;
-    sort_by_least(&mut turns);
+    let mut turns = turns_in_order(alloc, places, tets)?;
+    sort_along(&mut turns);
     Ok(turns)
 }
 
 // The tetrahedra in the order of their list.
-fn turns_in_order(alloc: Global, tets: &[Tet]) -> Result<Vec<Turn>, AllocError>
-    requires { length tets.now ≤ 65536 }
+fn turns_in_order(alloc: Global, places: &Places, tets: &[Tet]) -> Result<Vec<Turn>, AllocError>
+    requires few { length tets.now ≤ 65536 }
+    requires there { All (λ tet. HasNodes places.now tet.nodes) tets.now }
     ensures { IfOk result (λ turns.
         map (λ turn. turn.tet) turns.items ≡ range_with_len 0 (length tets.now)) }
 {
     let mut turns = Vec::with_capacity(alloc, tets.len())?;
     for position in 0..tets.len() {
         turns.push(Turn {
-            least: least_of(&tets[position].nodes),
+            along: along_curve(first_corner(places, &tets[position].nodes)),
             tet: position as u32,
         })?;
     }
     Ok(turns)
 }
 
-fn least_of(nodes: &[u32; 4]) -> u32 {
-    nodes[0].min(nodes[1]).min(nodes[2]).min(nodes[3])
+fn first_corner(places: &Places, nodes: &[u32; 4]) -> V3
+    requires { HasNodes places.now nodes.now }
+{
+    places.get(nodes[0])
 }
 
-fn sort_by_least(turns: &mut Vec<Turn>)
+// How far along Morton's curve a place is: the bits of its components in turn, the highest first.
+fn along_curve(v: V3) -> u64 {
+    spread(v.x) | (spread(v.y) << 1) | (spread(v.z) << 2)
+}
+
+// The lowest 21 bits of a component that is moved to be positive, each two bits behind the next.
+fn spread(v: i64) -> u64 {
+    let one = v.saturating_add(1_048_576).max(0) as u64 & 0x1f_ffff;
+    let two = (one | (one << 32)) & 0x001f_0000_0000_ffff;
+    let four = (two | (two << 16)) & 0x001f_0000_ff00_00ff;
+    let eight = (four | (four << 8)) & 0x100f_00f0_0f00_f00f;
+    let sixteen = (eight | (eight << 4)) & 0x10c3_0c30_c30c_30c3;
+    (sixteen | (sixteen << 2)) & 0x1249_2492_4924_9249
+}
+
+fn sort_along(turns: &mut Vec<Turn>)
     ensures { IsPermutation turns.old.items turns.new.items }
 {
-    turns.sort_unstable_by_key(|turn| turn.least);
+    turns.sort_unstable_by_key(|turn| turn.along);
 }

@@ -10,7 +10,7 @@ use Rattle.potential_sum.proofs.Standing.{may_rest}
 use Rattle.potential_sum.proofs.bodies.bodies_in_turns.Goals as goal
 
 abbrev turn_at : List Turn → ℕ → Turn
-turn_at turns i = get_or turns i (record { least = 0; tet = 0 })
+turn_at turns i = get_or turns i (record { along = 0; tet = 0 })
 
 -- the tetrahedron that is looked at
 read : (tets seen : List Tet) (i : ℕ) (tet d : Tet) → seen ≡ tets → tet ≡ get_or seen i tet → i < length tets → tet ≡ get_or tets i d
@@ -20,7 +20,7 @@ pub body_of-requires-clause-rest : goal.body_of-requires-clause-rest
 body_of-requires-clause-rest c =
     let tets = c.args.setup.now.mesh.tets in
     let turn : Turn = turn_at c.args.turns.now c.loop-turn.turn-index in
-    let there : turn.tet < length tets = c.requires.there c.loop-turn.turn-index (record { least = 0; tet = 0 }) c.loop-turn-test.true in
+    let there : turn.tet < length tets = c.requires.there c.loop-turn.turn-index (record { along = 0; tet = 0 }) c.loop-turn-test.true in
     let tet = c.index-tets-turn.result in
     subst (λ (t : Tet). CanRest (corners_at c.args.setup.now.mesh.places t.nodes))
     (sym (read tets c.items-tets.result.now turn.tet tet tet c.items-tets.ensures c.index-tets-turn.is there))
@@ -34,13 +34,13 @@ loop-turn-preserved c d =
     let tets = c.args.setup.now.mesh.tets in
     let elastic : Turn → ElasticTet = λ turn. elastic_of c.args.setup.now (get_or tets turn.tet d) in
     let turn : Turn = turn_at c.args.turns.now c.loop-turn.turn-index in
-    let there : turn.tet < length tets = c.requires.there c.loop-turn.turn-index (record { least = 0; tet = 0 }) c.loop-turn-test.true in
+    let there : turn.tet < length tets = c.requires.there c.loop-turn.turn-index (record { along = 0; tet = 0 }) c.loop-turn-test.true in
     let tet = c.index-tets-turn.result in
     let at : tet ≡ get_or tets turn.tet d = read tets c.items-tets.result.now turn.tet tet d c.items-tets.ensures c.index-tets-turn.is there in
     let pushed : c.push.new.self.items ≡ c.loop-turn.made.items ++ c.body_of.result ∷ [] = search rules in
     ap (map elastic_in) pushed ∙ map-append elastic_in c.loop-turn.made.items (c.body_of.result ∷ [])
     ∙ (λ i. c.loop-turn.invariant d i ++ (c.body_of.ensures ∙ ap (elastic_of c.args.setup.now) at) i ∷ [])
-    ∙ sym (map_more elastic c.args.turns.now c.loop-turn.turn-index (record { least = 0; tet = 0 }) c.loop-turn-test.true)
+    ∙ sym (map_more elastic c.args.turns.now c.loop-turn.turn-index (record { along = 0; tet = 0 }) c.loop-turn-test.true)
 
 pub returns : goal.returns
 returns c d =

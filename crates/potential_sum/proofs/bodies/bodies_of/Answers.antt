@@ -8,6 +8,7 @@ use Rattle.std.proofs.lemmas.List.Sorted.{IsPermutation-map}
 use Rattle.std.proofs.lemmas.Result.{IfOk-weaker}
 use Rattle.std.proofs.lemmas.Simd.{map-map}
 use Rattle.space3.specs.declared.lists.Tet.{Tet}
+use Rattle.space3.specs.Mesh.{HasNodes}
 use Rattle.surface_mesh.specs.declared.setup.Setup.{Setup}
 use Rattle.surface_mesh.specs.Setup.{IsSetup}
 use Rattle.potential_sum.specs.declared.bodies.Body.{Body}
@@ -38,7 +39,15 @@ in_turns s turns bodies built each made =
     (IsPermutation-map at (range_with_len 0 n) (map (λ turn. turn.tet) turns) each))
 
 pub turns_of-requires : goal.turns_of-requires
-turns_of-requires c = subst (λ (tets : List Tet). length tets ≤ 65536) (sym c.items.ensures) c.requires.built.mesh_is_sound.few_tets
+turns_of-requires c =
+    let mesh = c.args.setup.now.mesh in
+    let sound = c.requires.built.mesh_is_sound in
+    record {
+      few = subst (λ (tets : List Tet). length tets ≤ 65536) (sym c.items.ensures) sound.few_tets;
+      there =
+          subst (λ (tets : List Tet). All (λ tet. HasNodes mesh.places tet.nodes) tets) (sym c.items.ensures)
+          (λ k d l. subst (λ n. All (λ node. node < n) (get_or mesh.tets k d).nodes) sound.placed (sound.tets k d l).there);
+    }
 
 pub bodies_in_turns-requires-clause-there : goal.bodies_in_turns-requires-clause-there
 bodies_in_turns-requires-clause-there c =

@@ -9,7 +9,7 @@ pub loop-position-preserved : goal.loop-position-preserved
 loop-position-preserved c =
     let tet : Turn → ℕ = λ turn. turn.tet in
     let k = c.loop-position.position in
-    let turn : Turn = record { least = c.least_of.result; tet = k } in
+    let turn : Turn = record { along = c.along_curve.result; tet = k } in
     let pushed : c.push.new.self.items ≡ c.loop-position.turns.items ++ turn ∷ [] = search rules in
     counted_more (λ k. k) k k (map tet c.loop-position.turns.items) (map tet c.push.new.self.items) c.loop-position.invariant refl
     (ap (map tet) pushed ∙ map-append tet c.loop-position.turns.items (turn ∷ []))

@@ -18,11 +18,11 @@ below : (n : ℕ) → All (λ k. k < n) (range_with_len 0 n)
 below n = λ k d l. omega (arith, l, length-range_with_len 0 n, get_or-range_with_len 0 n k d (omega (arith, l, length-range_with_len 0 n)))
 
 pub returns-clause-each : goal.returns-clause-each
-returns-clause-each c = moved (length c.args.tets.now) c.in_ok-turns.turns.items c.sort_by_least.new.turns.items c.in_ok-turns.ensures c.sort_by_least.ensures
+returns-clause-each c = moved (length c.args.tets.now) c.in_ok-turns.turns.items c.sort_along.new.turns.items c.in_ok-turns.ensures c.sort_along.ensures
 
 pub returns-clause-there : goal.returns-clause-there
 returns-clause-there c =
     let n : ℕ = length c.args.tets.now in
-    All-map_back (λ k. k < n) tet_of c.sort_by_least.new.turns.items
-    (All-permutation (λ k. k < n) (range_with_len 0 n) (map tet_of c.sort_by_least.new.turns.items)
-    (moved n c.in_ok-turns.turns.items c.sort_by_least.new.turns.items c.in_ok-turns.ensures c.sort_by_least.ensures) (below n))
+    All-map_back (λ k. k < n) tet_of c.sort_along.new.turns.items
+    (All-permutation (λ k. k < n) (range_with_len 0 n) (map tet_of c.sort_along.new.turns.items)
+    (moved n c.in_ok-turns.turns.items c.sort_along.new.turns.items c.in_ok-turns.ensures c.sort_along.ensures) (below n))
