@@ -1,5 +1,5 @@
 -- Places haven't moved from where they are.
-use Rattle.std.proofs.Common.{◌≡◌, ◌∙◌, ◌&&◌, ℕ, ℤ, true, List, [], ◌∷◌, arith, refl, sym, ap}
+use Rattle.std.proofs.Common.{◌≡◌, ◌∙◌, ◌&&◌, ℕ, ℤ, true, List, [], ◌∷◌, arith, refl, ap}
 use Rattle.std.proofs.lemmas.Int.{ints}
 use Rattle.space3.specs.declared.vectors.V3.{V3}
 use Rattle.broad_grid.specs.Kept.{differ_by_at_most, has_stayed, have_stayed}
