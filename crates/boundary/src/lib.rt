@@ -18,7 +18,7 @@ mod surface;
 
 pub use laws::{each_mesh_has_a_surface_outcome, one_surface_outcome};
 pub use limits::TRIANGLE_LIMIT;
-pub use pairs::{KINDS, Pair, PairKind, pairs_stand_in_order};
+pub use pairs::{KINDS, Pair, PairKind, pairs_stand_in_order, share_node};
 pub use parts::PairParts;
 pub use refusal::SurfErr;
 pub use surface::{Surface, mesh_has_one_surface};

@@ -142,14 +142,11 @@ fn is_in_order(kind: PairKind, a: usize, b: usize) -> bool
     }
 }
 
-fn share_node(left: &[u32], right: &[u32]) -> bool
+/// Whether two parts have a common node.
+pub fn share_node(left: &[u32], right: &[u32]) -> bool
     ensures { result ≡ share_node (record { left = left.now; right = right.now }) }
 {
-    let mut shared = false;
-    for x in left {
-        shared |= has_node(right, *x);
-    }
-    shared
+    left.iter().any(|x| has_node(right, *x))
 }
 
 fn has_node(nodes: &[u32], x: u32) -> bool

@@ -3,7 +3,7 @@ ghost use Rattle.std.specs.Prelude.{◌≡◌, ◌<◌, ◌≤◌, ◌+◌, ◌^
 ghost use Rattle.std.specs.List.{Contains};
 ghost use Rattle.std.specs.List.Sorted.{IsStrictlyIncreasing};
 ghost use Rattle.space3.specs.Mesh.{HasNodes};
-ghost use Rattle.boundary.specs.Pairs.{first_parts, has_node, pair_of, second_parts, share_node};
+ghost use Rattle.boundary.specs.Pairs.{first_parts, pair_of, second_parts};
 ghost use Rattle.box_grid.specs.Near.{LiesInTheBox};
 ghost use Rattle.box_grid.specs.declared.limits.TheConstants.{REACH_LIMIT};
 ghost use Rattle.broad_grid.specs.Calls.Counts.{HasCounted};
@@ -12,7 +12,7 @@ ghost use Rattle.broad_grid.specs.Calls.Walk.{near_pairs_of};
 
 use crate::boxes::{PartBoxes, first_boxes, part_boxes, second_grid};
 use crate::list::PairList;
-use boundary::{Pair, PairKind, Surface};
+use boundary::{Pair, PairKind, Surface, share_node};
 use box_grid::{BoxGrid, Room};
 use space3::{BoundingBox, Places};
 use std::alloc::{AllocError, Global};
@@ -222,18 +222,6 @@ fn append_apart_from<const N: usize>(
         append_where(apart, *b, seconds)?;
     }
     Ok(())
-}
-
-fn share_node(left: &[u32], right: &[u32]) -> bool
-    ensures { result ≡ share_node (record { left = left.now; right = right.now }) }
-{
-    left.iter().any(|x| has_node(right, *x))
-}
-
-fn has_node(nodes: &[u32], node: u32) -> bool
-    ensures { result ≡ has_node nodes.now node }
-{
-    nodes.iter().any(|other| node == *other)
 }
 
 // Sorts the positions and keeps each once.
