@@ -5,10 +5,11 @@ use Rattle.std.specs.List.Sorted.{IsNonDecreasingBy}
 use Rattle.std.proofs.Math.Nat.{mul-le-mul_right}
 use Rattle.std.proofs.lemmas.Bool.{cases_lt}
 use Rattle.std.proofs.lemmas.List.{get_or-drop, get_or-take, get_or_append_left, get_or_push, length-drop, length-take}
-use Rattle.std.proofs.lemmas.List.Elements.{All-drop, All-take}
+use Rattle.std.proofs.lemmas.List.Elements.{All-contains, All-contains_itself, All-drop, All-take}
 use Rattle.box_grid.specs.declared.entries.Entry.{Entry}
 use Rattle.box_grid.specs.declared.limits.TheConstants.{MOST_BUCKETS}
 use Rattle.box_grid.specs.Calls.Buckets.{IsPart, IsPartedAt, IsParted, bucket_of}
+use Rattle.box_grid.specs.Calls.Cells.{entry_key}
 use Rattle.box_grid.proofs.Divisions.{div_keeps_order}
 
 pub bucket_keeps_order : (count a b : ℕ) → a ≤ b → bucket_of count a ≤ bucket_of count b
@@ -16,15 +17,15 @@ unfolding bucket_of
 bucket_keeps_order count a b l = div_keeps_order (a * count) (b * count) 4294967296 (omega arith) (mul-le-mul_right count l)
 
 -- the first entry of a bucket or of a later one, before which are those of earlier buckets
-pub parted_at : (entries : List Entry) (count bucket start : ℕ) → IsNonDecreasingBy (λ (e : Entry). e.key) entries → start ≤ length entries → ((k : ℕ) (d : Entry) → k < start → bucket_of count (get_or entries k d).key < bucket) → ((d : Entry) → start < length entries → bucket ≤ bucket_of count (get_or entries start d).key) → IsPartedAt entries count bucket start
+pub parted_at : (entries : List Entry) (count bucket start : ℕ) → IsNonDecreasingBy entry_key entries → start ≤ length entries → ((k : ℕ) (d : Entry) → k < start → bucket_of count (entry_key (get_or entries k d)) < bucket) → ((d : Entry) → start < length entries → bucket ≤ bucket_of count (entry_key (get_or entries start d))) → IsPartedAt entries count bucket start
 parted_at entries count bucket start sorted within before here = record {
   within = within;
   before = before;
   after = λ k d from l.
-      omega (arith, here d (omega arith), bucket_keeps_order count (get_or entries start d).key (get_or entries k d).key (at_least k d from l));
+      omega (arith, here d (omega arith), bucket_keeps_order count (entry_key (get_or entries start d)) (entry_key (get_or entries k d)) (at_least k d from l));
 }
   where
-    at_least : (k : ℕ) (d : Entry) → start ≤ k → k < length entries → (get_or entries start d).key ≤ (get_or entries k d).key
+    at_least : (k : ℕ) (d : Entry) → start ≤ k → k < length entries → (entry_key (get_or entries start d)) ≤ (entry_key (get_or entries k d))
     at_least k d from l = sorted start k d from l
 
 -- one place more
@@ -76,15 +77,16 @@ part_of entries rest part count key bucket start end value a b rise back is =
     let many = end - start in
     record {
       has = λ e there same. subst (λ (xs : List Entry). Contains xs e) (sym (is ∙ ap (take many) back)) (inside e there same);
-      only = λ n all.
-          subst (All (λ (e : Entry). e.item < n)) (sym (is ∙ ap (take many) back))
-          (All-take (λ (e : Entry). e.item < n) many (drop start entries) (All-drop (λ (e : Entry). e.item < n) start entries all));
+      only = λ e.
+          All-contains (Contains entries) part e
+          (subst (All (Contains entries)) (sym (is ∙ ap (take many) back))
+          (All-take (Contains entries) many (drop start entries) (All-drop (Contains entries) start entries (All-contains_itself entries))));
     }
   where
-    inside : (e : Entry) → Contains entries e → e.key ≡ key → Contains (take (end - start) (drop start entries)) e
+    inside : (e : Entry) → Contains entries e → entry_key e ≡ key → Contains (take (end - start) (drop start entries)) e
     inside e (k, l, at) same =
-        let key_at : (get_or entries k e).key ≡ key = ap (λ (x : Entry). x.key) at ∙ same in
-        let bucket_at : bucket_of count (get_or entries k e).key ≡ bucket = ap (bucket_of count) key_at ∙ sym value in
+        let key_at : (entry_key (get_or entries k e)) ≡ key = ap entry_key at ∙ same in
+        let bucket_at : bucket_of count (entry_key (get_or entries k e)) ≡ bucket = ap (bucket_of count) key_at ∙ sym value in
         let from : start ≤ k = elim (cases_lt k start) [ inl x ↦ absurd (omega (arith, a.before k e x, bucket_at)) | inr h ↦ h ] in
         let below : k < end = elim (cases_lt k end) [ inl x ↦ x | inr h ↦ absurd (omega (arith, b.after k e h l, bucket_at)) ] in
         let on : start + (k - start) ≡ k = omega arith in

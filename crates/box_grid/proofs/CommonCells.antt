@@ -15,7 +15,7 @@ use Rattle.box_grid.specs.declared.entries.Entry.{Entry}
 use Rattle.box_grid.specs.declared.sizes.Level.{Level}
 use Rattle.box_grid.specs.declared.limits.TheConstants.{AXIS_LIMIT, LEAST_SIDE, REACH_LIMIT}
 use Rattle.box_grid.specs.Near.{LiesInTheBox, box_at}
-use Rattle.box_grid.specs.Calls.Cells.{LiesByTheBox, cell_of, cells_over, entries_in, entries_of, entries_of_boxes, entry, has, key_of, keys_over}
+use Rattle.box_grid.specs.Calls.Cells.{LiesByTheBox, cell_of, cells_over, entries_in, entries_of, entries_of_boxes, entry_at, has, key_of, keys_over}
 use Rattle.box_grid.proofs.Divisions.{div_keeps_order}
 use Rattle.box_grid.proofs.KeysOfCells.{entry_of_cell, key_of_cell}
 use Rattle.box_grid.proofs.WideBoxes.{by_the_box}
@@ -54,22 +54,22 @@ along side al ag bl bg s a b before after =
     no_gap a b h = omega (arith, ints)
 
 -- an entry of the item with a key of the cells
-pub record EntryOfCells (entries : List Entry) (c : Cells) (item : ℕ) : Type 0 where
+pub record EntryOfCells (entries : List Entry) (c : Cells) (item : ℕ) (around : BoundingBox) : Type 0 where
   pub key : ℕ
-  pub there : Contains entries (entry key item)
+  pub there : Contains entries (entry_at key item around)
   pub of_cells : Contains (keys_over c) key
 
 -- where two boxes' cells have a common one, the second has an entry with a key of the first
-entry_of_common_cell : (a b : Cells) (item : ℕ) → Common a.x a.width b.x b.width → Common a.y a.depth b.y b.depth → Common a.z a.height b.z b.height → EntryOfCells (entries_of b item) a item
-entry_of_common_cell a b item cx cy cz = record {
+entry_of_common_cell : (a b : Cells) (item : ℕ) (around : BoundingBox) → Common a.x a.width b.x b.width → Common a.y a.depth b.y b.depth → Common a.z a.height b.z b.height → EntryOfCells (entries_of b item around) a item around
+entry_of_common_cell a b item around cx cy cz = record {
   key = key_of cx.cell cy.cell cz.cell;
-  there = entry_of_cell b item (key_of cx.cell cy.cell cz.cell) (key_of_cell b cx.cell cy.cell cz.cell cx.from_b cx.below_b cy.from_b cy.below_b cz.from_b cz.below_b);
+  there = entry_of_cell b item (key_of cx.cell cy.cell cz.cell) around (key_of_cell b cx.cell cy.cell cz.cell cx.from_b cx.below_b cy.from_b cy.below_b cz.from_b cz.below_b);
   of_cells = key_of_cell a cx.cell cy.cell cz.cell cx.from_a cx.below_a cy.from_a cy.below_a cz.from_a cz.below_a;
 }
 
 -- a box that touches has an entry with a key of the cells
 pub entry_of_touching_box : (level : Level) (reached : BoundingBox) (boxes : List BoundingBox) (item : ℕ) → LEAST_SIDE ≤ level.side → LiesByTheBox reached → All LiesInTheBox boxes → item < length boxes → IsTrue (are_within 0 reached (box_at boxes item)) → has level (box_at boxes item) ≡ true →
-    EntryOfCells (entries_of_boxes level boxes) (cells_over level.side reached) item
+    EntryOfCells (entries_of_boxes level boxes) (cells_over level.side reached) item (box_at boxes item)
 entry_of_touching_box level a boxes item s h all below touch had =
     let side = level.side in
     let b = box_at boxes item in
@@ -79,13 +79,13 @@ entry_of_touching_box level a boxes item s h all below touch had =
     let x = gap_parts 0 a.least.x a.greatest.x b.least.x b.greatest.x inner.0 in
     let y = gap_parts 0 a.least.y a.greatest.y b.least.y b.greatest.y inner.1 in
     let z = gap_parts 0 a.least.z a.greatest.z b.least.z b.greatest.z outer.1 in
-    let f = entry_of_common_cell (cells_over side a) (cells_over side b) item
+    let f = entry_of_common_cell (cells_over side a) (cells_over side b) item b
     (along side a.least.x a.greatest.x b.least.x b.greatest.x (omega arith) h.least.x other.least.x x.0 x.1)
     (along side a.least.y a.greatest.y b.least.y b.greatest.y (omega arith) h.least.y other.least.y y.0 y.1)
     (along side a.least.z a.greatest.z b.least.z b.greatest.z (omega arith) h.least.z other.least.z z.0 z.1) in
     record {
       key = f.key;
-      there = Contains-flat_map (λ i. entries_in level (box_at boxes i) i) (range_with_len 0 (length boxes)) item (entry f.key item) (Contains-range (length boxes) item below)
-          (subst (λ t. Contains (if t then entries_of (cells_over side b) item else []) (entry f.key item)) (sym had) f.there);
+      there = Contains-flat_map (λ i. entries_in level (box_at boxes i) i) (range_with_len 0 (length boxes)) item (entry_at f.key item b) (Contains-range (length boxes) item below)
+          (subst (λ t. Contains (if t then entries_of (cells_over side b) item b else []) (entry_at f.key item b)) (sym had) f.there);
       of_cells = f.of_cells;
     }

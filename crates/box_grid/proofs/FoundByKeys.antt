@@ -1,62 +1,71 @@
 -- What is found among the entries with some keys, key by key.
-use Rattle.std.proofs.Common.{◌≡◌, ℕ, Bool, ◌+◌, ◌<◌, zero, suc, List, [], ◌∷◌, ◌++◌, length, get_or, map, take, sym, subst, arith, inl, inr}
-use Rattle.std.specs.Prelude.{filter}
-use Rattle.std.specs.List.{All, Contains}
+use Rattle.std.proofs.Common.{◌≡◌, ℕ, ◌+◌, ◌<◌, zero, suc, List, [], ◌∷◌, ◌++◌, length, get_or, map, take, sym, subst, arith, inl, inr}
+use Rattle.std.specs.Prelude.{IsTrue, filter}
+use Rattle.std.specs.List.{Contains}
 use Rattle.std.proofs.lemmas.List.{take_more}
-use Rattle.std.proofs.lemmas.List.Elements.{All-append, All-filter, All-map, Contains-append_cases, Contains-append_left, Contains-append_right, filter_passes}
-use Rattle.list_laws.proofs.Membership.{Contains-filter, Contains-map, Contains-nil}
+use Rattle.std.proofs.lemmas.List.Elements.{Contains-append_cases, Contains-append_left, Contains-append_right}
+use Rattle.list_laws.proofs.Membership.{Contains-filter, Contains-from_filter, Contains-from_map, Contains-map, Contains-nil}
 use Rattle.box_grid.specs.declared.entries.Entry.{Entry}
-use Rattle.box_grid.specs.Calls.Buckets.{HasKeys, IsPart}
-use Rattle.box_grid.specs.Calls.Cells.{PassesBelow}
+use Rattle.box_grid.specs.declared.search.Query.{Query}
+use Rattle.box_grid.specs.Calls.Buckets.{HasKeys, IsPart, IsSought}
+use Rattle.box_grid.specs.Calls.Cells.{bound_of, entry_item, entry_key, is_below}
+use Rattle.box_grid.proofs.EntriesOfBoxes.{below_is_sought}
 
 -- no key
-pub HasKeys_none : (p : ℕ → Bool) (entries : List Entry) (old : List ℕ) → HasKeys p entries [] old old
-HasKeys_none p entries old = record {
+pub HasKeys_none : (query : Query) (entries : List Entry) (old : List ℕ) → HasKeys query entries [] old old
+HasKeys_none query entries old = record {
   kept = λ x h. h;
-  has = λ e there key t. absurd (Contains-nil e.key key);
-  only = λ n all below. below;
+  has = λ e there key t. absurd (Contains-nil (entry_key e) key);
+  only = λ x h. inl h;
 }
 
 -- no entry
-pub HasKeys_empty : (p : ℕ → Bool) (entries : List Entry) (keys old : List ℕ) → length entries ≡ 0 → HasKeys p entries keys old old
-HasKeys_empty p entries keys old none = record {
+pub HasKeys_empty : (query : Query) (entries : List Entry) (keys old : List ℕ) → length entries ≡ 0 → HasKeys query entries keys old old
+HasKeys_empty query entries keys old none = record {
   kept = λ x h. h;
   has = λ e there key t. absurd (omega (arith, there.1, none));
-  only = λ n all below. below;
+  only = λ x h. inl h;
 }
 
--- the items of a part that pass
-abbrev pub passing_items : (ℕ → Bool) → List Entry → List ℕ
-passing_items p part = filter p (map (λ (e : Entry). e.item) part)
+-- the positions of a part below a bound
+abbrev pub items_below : Entry → List Entry → List ℕ
+items_below bound part = map entry_item (filter (is_below bound) part)
 
 -- one key more
-pub HasKeys_more : (p : ℕ → Bool) (entries part : List Entry) (keys : List ℕ) (i d : ℕ) (old found new : List ℕ) → i < length keys → HasKeys p entries (take i keys) old found → IsPart entries (get_or keys i d) part → new ≡ found ++ passing_items p part → HasKeys p entries (take (i + 1) keys) old new
-HasKeys_more p entries part keys i d old found new l h of_key is = record {
+pub HasKeys_more : (query : Query) (entries part : List Entry) (keys : List ℕ) (i d : ℕ) (old found new : List ℕ) → i < length keys → HasKeys query entries (take i keys) old found → IsPart entries (get_or keys i d) part → new ≡ found ++ items_below (bound_of query (get_or keys i d)) part → HasKeys query entries (take (i + 1) keys) old new
+HasKeys_more query entries part keys i d old found new l h of_key is = record {
   kept = λ x m. more x (h.kept x m);
   has = λ e there with t.
-      elim (Contains-append_cases (take i keys) (get_or keys i d ∷ []) e.key (subst (λ (xs : List ℕ). Contains xs e.key) (take_more keys i d l) with)) [
-        | inl before ↦ more e.item (h.has e there before t)
+      elim (Contains-append_cases (take i keys) (key ∷ []) (entry_key e) (subst (λ (xs : List ℕ). Contains xs (entry_key e)) (take_more keys i d l) with)) [
+        | inl before ↦ more (entry_item e) (h.has e there before t)
         | inr last ↦
-            subst (λ (xs : List ℕ). Contains xs e.item) (sym is)
-            (Contains-append_right found (passing_items p part) e.item
-            (Contains-filter p (map (λ (x : Entry). x.item) part) e.item t
-            (Contains-map (λ x. x.item) part e (of_key.has e there (one_of e.key (get_or keys i d) last)))))
+            let same = one_of (entry_key e) key last in
+            subst (λ (xs : List ℕ). Contains xs (entry_item e)) (sym is)
+            (Contains-append_right found (items_below bound part) (entry_item e)
+            (Contains-map entry_item (filter (is_below bound) part) e
+            (Contains-filter (is_below bound) part e (subst (λ k. IsTrue (is_below (bound_of query k) e)) same t) (of_key.has e there same))))
       ];
-  only = λ n all low.
-      subst (All (PassesBelow n p)) (sym is)
-      (All-append (PassesBelow n p) found (passing_items p part) (h.only n all low)
-      (passing_below n (map (λ (x : Entry). x.item) part) (All-map (λ j. j < n) (λ (x : Entry). x.item) part (of_key.only n all))));
+  only = λ x m.
+      elim (Contains-append_cases found (items_below bound part) x (subst (λ (xs : List ℕ). Contains xs x) is m)) [
+        | inl before ↦ h.only x before
+        | inr last ↦ inr (sought x (Contains-from_map entry_item (filter (is_below bound) part) x last))
+      ];
 }
   where
+    key : ℕ
+    key = get_or keys i d
+
+    bound : Entry
+    bound = bound_of query key
+
     more : (x : ℕ) → Contains found x → Contains new x
-    more x m = subst (λ (xs : List ℕ). Contains xs x) (sym is) (Contains-append_left found (passing_items p part) x m)
+    more x m = subst (λ (xs : List ℕ). Contains xs x) (sym is) (Contains-append_left found (items_below bound part) x m)
+
+    sought : (x : ℕ) → (e : Entry) × Contains (filter (is_below bound) part) e × (entry_item e ≡ x) → IsSought query entries x
+    sought x (e, there, same) =
+        let r = Contains-from_filter (is_below bound) part e there in
+        record { of = e; there = of_key.only e r.0; sought = below_is_sought query key e r.1; item = same }
 
     one_of : (x y : ℕ) → Contains (y ∷ []) x → x ≡ y
     one_of x y (zero, m, e) = sym e
     one_of x y (suc k, m, e) = absurd (omega arith)
-
-    passing_below : (n : ℕ) (items : List ℕ) → All (λ j. j < n) items → All (PassesBelow n p) (filter p items)
-    passing_below n items below = λ k d m. record {
-      below = All-filter p (λ j. j < n) items below k d m;
-      passes = filter_passes p items k d m;
-    }

@@ -2,9 +2,11 @@ pub mod AppendedLists
 pub mod BucketOrder
 pub mod CommonCells
 pub mod Divisions
+pub mod EntriesOfBoxes
 pub mod FoundByKeys
 pub mod KeysOfCells
 pub mod NearPositions
 pub mod Sides
+pub mod ShortNumbers
 pub mod SortedNumbers
 pub mod WideBoxes

@@ -26,10 +26,10 @@ by_the_box b h = record { least = wider b.least h.least; greatest = wider b.grea
 le_as_gap : (a b : ℤ) → int_le a b ≡ int_le (a -ℤ b) (pos 0)
 le_as_gap a b = grind (arith, ints)
 
-abbrev corner_before : V3 → V3 → Bool
+abbrev pub corner_before : V3 → V3 → Bool
 corner_before a b = int_le a.x b.x && int_le a.y b.y && int_le a.z b.z
 
-touching_corners : (a b : BoundingBox) → (corner_before b.least a.greatest && corner_before a.least b.greatest) ≡ are_within 0 a b
+pub touching_corners : (a b : BoundingBox) → (corner_before b.least a.greatest && corner_before a.least b.greatest) ≡ are_within 0 a b
 touching_corners a b =
     (λ i. (le_as_gap b.least.x a.greatest.x i && le_as_gap b.least.y a.greatest.y i && le_as_gap b.least.z a.greatest.z i) && (le_as_gap a.least.x b.greatest.x i && le_as_gap a.least.y b.greatest.y i && le_as_gap a.least.z b.greatest.z i))
     ∙ corners_within 0 a b

@@ -4,6 +4,7 @@ ghost use Rattle.std.specs.List.Sorted.{IsNonDecreasingBy};
 ghost use Rattle.box_grid.specs.declared.entries.Entry.{Entry};
 ghost use Rattle.box_grid.specs.Near.{LiesInTheBox};
 ghost use Rattle.box_grid.specs.Calls.Buckets.{IsPart, IsPartedAt, IsParted, IsLevel, bucket_of};
+ghost use Rattle.box_grid.specs.Calls.Cells.{entry_key};
 
 use crate::entries::{Entry, entries_of_boxes};
 use crate::limits::{LEAST_SIDE, MOST_BUCKETS};
@@ -79,7 +80,7 @@ fn bucket_of(count: u64, key: u32) -> u64
 fn starts_of(alloc: Global, entries: &[Entry], count: u64) -> Result<Vec<usize>, AllocError>
     requires some { 0 < count }
     requires few { count ≤ MOST_BUCKETS }
-    requires sorted { IsNonDecreasingBy (λ (e : Entry). e.key) entries.now }
+    requires sorted { IsNonDecreasingBy entry_key entries.now }
     ensures { IfOk result (λ starts. IsParted entries.now starts.items) }
 {
     let mut starts = Vec::with_capacity(alloc, count as usize + 1)?;
@@ -95,14 +96,14 @@ fn starts_of(alloc: Global, entries: &[Entry], count: u64) -> Result<Vec<usize>,
 fn first_from(entries: &[Entry], start: usize, count: u64, bucket: u64) -> usize
     requires some { 0 < count }
     requires few { count ≤ MOST_BUCKETS }
-    requires sorted { IsNonDecreasingBy (λ (e : Entry). e.key) entries.now }
+    requires sorted { IsNonDecreasingBy entry_key entries.now }
     requires start { start ≤ length entries.now }
     requires below { (k : ℕ) (d : Entry) → k < start →
-        bucket_of count (slice_index_or entries.now k d).key < bucket }
+        bucket_of count (entry_key (slice_index_or entries.now k d)) < bucket }
     ensures { IsPartedAt entries.now count bucket result }
 {
     for k in start..entries.len() {
-        if bucket <= bucket_of(count, entries[k].key) {
+        if bucket <= bucket_of(count, entries[k].key()) {
             return k;
         }
     }

@@ -134,7 +134,6 @@ impl BoxGrid {
         let common = append_touching_over(
             &self.common,
             &cells,
-            &self.boxes,
             &query,
             &mut room.keys,
             &mut room.found,
@@ -142,7 +141,6 @@ impl BoxGrid {
         let great = append_touching_of_level(
             &self.great,
             self.great_side,
-            &self.boxes,
             &query,
             &mut room.keys,
             &mut room.found,

@@ -1,14 +1,13 @@
 //! The search for the boxes that touch another one, by the entries of the cells over that one.
-ghost use Rattle.std.specs.Prelude.{◌≡◌, ◌+◌, ◌^◌, ◌<◌, ◌≤◌, ◌++◌, ◌∷◌, [], ◌&&◌, IfOk, length, map, filter, int_le, nat_le, All, if◌then◌else◌};
+ghost use Rattle.std.specs.Prelude.{◌≡◌, ◌+◌, ◌^◌, ◌<◌, ◌≤◌, ◌++◌, ◌∷◌, [], ◌&&◌, IfOk, length, map, filter, int_le, nat_le, if◌then◌else◌};
 ghost use Rattle.std.specs.List.{range_with_len};
 ghost use Rattle.space3.specs.Boxes.{are_within};
-ghost use Rattle.box_grid.specs.declared.entries.Entry.{Entry};
 ghost use Rattle.box_grid.specs.Calls.Buckets.{HasKeys, IsParted};
-ghost use Rattle.box_grid.specs.Calls.Cells.{AreCells, LiesByTheBox, cells_over, keys_over, touches};
+ghost use Rattle.box_grid.specs.Calls.Cells.{AreCells, LiesByTheBox, cells_over, entry_item, is_below, keys_over, touches};
 
 use crate::buckets::Buckets;
 use crate::cells::{Cells, cells_over, keys_over};
-use crate::entries::Entry;
+use crate::entries::{Entry, bound_of};
 use crate::limits::LEAST_SIDE;
 use space3::{BoundingBox, V3};
 use std::alloc::AllocError;
@@ -25,7 +24,6 @@ pub(crate) struct Query {
 pub(crate) fn append_touching_of_level(
     buckets: &Buckets,
     side: u64,
-    boxes: &[BoundingBox],
     query: &Query,
     keys: &mut Vec<u32>,
     found: &mut Vec<u32>,
@@ -33,8 +31,7 @@ pub(crate) fn append_touching_of_level(
     requires side { LEAST_SIDE ≤ side }
     requires by_box { LiesByTheBox query.now.reached }
     requires parted { IsParted buckets.now.entries buckets.now.starts }
-    requires there { All (λ (e : Entry). e.item < length boxes.now) buckets.now.entries }
-    ensures keys { IfOk result (λ _. HasKeys (touches query.now boxes.now) buckets.now.entries
+    ensures keys { IfOk result (λ _. HasKeys query.now buckets.now.entries
         (keys_over (cells_over side query.now.reached)) found.old.items found.new.items) }
     ensures tested { IfOk result (λ tested.
         length found.new.items ≤ length found.old.items + tested) }
@@ -43,41 +40,39 @@ pub(crate) fn append_touching_of_level(
         return Ok(0);
     }
     let cells = cells_over(side, &query.reached);
-    append_touching_over(buckets, &cells, boxes, query, keys, found)
+    append_touching_over(buckets, &cells, query, keys, found)
 }
 
 /// The same for the entries in these cells.
 pub(crate) fn append_touching_over(
     buckets: &Buckets,
     cells: &Cells,
-    boxes: &[BoundingBox],
     query: &Query,
     keys: &mut Vec<u32>,
     found: &mut Vec<u32>,
 ) -> Result<u64, AllocError>
     requires cells { AreCells cells.now }
+    requires by_box { LiesByTheBox query.now.reached }
     requires parted { IsParted buckets.now.entries buckets.now.starts }
-    requires there { All (λ (e : Entry). e.item < length boxes.now) buckets.now.entries }
-    ensures keys { IfOk result (λ _. HasKeys (touches query.now boxes.now) buckets.now.entries
+    ensures keys { IfOk result (λ _. HasKeys query.now buckets.now.entries
         (keys_over cells.now) found.old.items found.new.items) }
     ensures tested { IfOk result (λ tested.
         length found.new.items ≤ length found.old.items + tested) }
 {
     keys_over(cells, keys)?;
-    append_touching_with(buckets, keys, boxes, query, found)
+    append_touching_with(buckets, keys, query, found)
 }
 
 // The same for the entries with these keys.
 fn append_touching_with(
     buckets: &Buckets,
     keys: &[u32],
-    boxes: &[BoundingBox],
     query: &Query,
     found: &mut Vec<u32>,
 ) -> Result<u64, AllocError>
+    requires by_box { LiesByTheBox query.now.reached }
     requires parted { IsParted buckets.now.entries buckets.now.starts }
-    requires there { All (λ (e : Entry). e.item < length boxes.now) buckets.now.entries }
-    ensures keys { IfOk result (λ _. HasKeys (touches query.now boxes.now) buckets.now.entries
+    ensures keys { IfOk result (λ _. HasKeys query.now buckets.now.entries
         keys.now found.old.items found.new.items) }
     ensures tested { IfOk result (λ tested.
         length found.new.items ≤ length found.old.items + tested) }
@@ -85,7 +80,7 @@ fn append_touching_with(
     let mut tested = 0u64;
     for key in keys {
         let part = buckets.with_key(*key);
-        append_touching_of(part, boxes, query, found)?;
+        append_below(part, &bound_of(query, *key), found)?;
         tested = tested.saturating_add(part.len() as u64);
     }
     Ok(tested)
@@ -110,22 +105,15 @@ pub(crate) fn append_all_touching(
     Ok(boxes.len() as u64)
 }
 
-// Appends the same of these entries.
-fn append_touching_of(
-    entries: &[Entry],
-    boxes: &[BoundingBox],
-    query: &Query,
-    found: &mut Vec<u32>,
-) -> Result<(), AllocError>
-    requires { All (λ (e : Entry). e.item < length boxes.now) entries.now }
+// Appends the positions of those of the entries that are below the bound.
+fn append_below(entries: &[Entry], bound: &Entry, found: &mut Vec<u32>) -> Result<(), AllocError>
     ensures items { IfOk result (λ _. found.new.items ≡ found.old.items
-        ++ filter (touches query.now boxes.now) (map (λ e. e.item) entries.now)) }
+        ++ map entry_item (filter (is_below bound.now) entries.now)) }
     ensures tested { IfOk result (λ _.
         length found.new.items ≤ length found.old.items + length entries.now) }
 {
     for entry in entries {
-        let wanted = is_wanted(query, entry.item, &boxes[entry.item as usize]);
-        append_where(wanted, entry.item, found)?;
+        append_where(entry.is_below(bound), entry.item(), found)?;
     }
     Ok(())
 }

@@ -1,13 +1,14 @@
 -- Sorted entries in buckets, and what is found among them.
-use Rattle.std.specs.Prelude.{ℕ, ◌+◌, ◌*◌, ◌/◌, ◌-◌, ◌^◌, ◌<◌, ◌≤◌, ◌≡◌, Bool, true, false, List, length, slice_index_or, All, IsTrue}
+use Rattle.std.specs.Prelude.{ℕ, ◌+◌, ◌*◌, ◌/◌, ◌-◌, ◌^◌, ◌<◌, ◌≤◌, ◌≡◌, Bool, true, false, List, length, slice_index_or, All, IsTrue, ◌⊎◌}
 use Rattle.std.specs.List.{Contains}
 use Rattle.std.specs.List.Sorted.{IsPermutation}
 use Rattle.space3.specs.declared.boxes.BoundingBox.{BoundingBox}
 use Rattle.box_grid.specs.declared.limits.TheConstants.{LEAST_SIDE, MOST_BUCKETS}
 use Rattle.box_grid.specs.declared.entries.Entry.{Entry}
+use Rattle.box_grid.specs.declared.search.Query.{Query}
 use Rattle.box_grid.specs.declared.sizes.Level.{Level}
 use Rattle.box_grid.specs.Near.{LiesInTheBox}
-use Rattle.box_grid.specs.Calls.Cells.{PassesBelow, entries_of_boxes}
+use Rattle.box_grid.specs.Calls.Cells.{entries_of_boxes, entry_item, entry_key, is_sought}
 
 -- the bucket of a key, of so many
 unfoldable pub bucket_of : ℕ → ℕ → ℕ
@@ -21,9 +22,9 @@ pub record Bucketed : Type 0 where
 -- a place before which the entries are of buckets before this one, and from which on they are of this or of later ones
 pub record IsPartedAt (entries : List Entry) (count bucket start : ℕ) : Type 0 where
   pub within : start ≤ length entries
-  pub before : (k : ℕ) (d : Entry) → k < start → bucket_of count (slice_index_or entries k d).key < bucket
+  pub before : (k : ℕ) (d : Entry) → k < start → bucket_of count (entry_key (slice_index_or entries k d)) < bucket
   pub after : (k : ℕ) (d : Entry) → start ≤ k → k < length entries →
-      bucket ≤ bucket_of count (slice_index_or entries k d).key
+      bucket ≤ bucket_of count (entry_key (slice_index_or entries k d))
 
 -- the place of each bucket, and one more
 pub record IsParted (entries : List Entry) (starts : List ℕ) : Type 0 where
@@ -34,8 +35,8 @@ pub record IsParted (entries : List Entry) (starts : List ℕ) : Type 0 where
 
 -- some of the entries, among which all with a key are
 pub record IsPart (entries : List Entry) (key : ℕ) (part : List Entry) : Type 0 where
-  pub has : (e : Entry) → Contains entries e → e.key ≡ key → Contains part e
-  pub only : (n : ℕ) → All (λ (e : Entry). e.item < n) entries → All (λ (e : Entry). e.item < n) part
+  pub has : (e : Entry) → Contains entries e → entry_key e ≡ key → Contains part e
+  pub only : (e : Entry) → Contains part e → Contains entries e
 
 -- the entries of a level's boxes by keys, in buckets
 pub record IsLevel (level : Level) (boxes : List BoundingBox) (b : Bucketed) : Type 0 where
@@ -53,10 +54,17 @@ pub record IsGrid (boxes : List BoundingBox) (side : ℕ) (small : Bucketed) (gr
   pub common : IsLevel (level_of false side side) boxes small
   pub great : IsLevel (level_of true side great_side) boxes large
 
--- Items that were there, those that pass a test of the entries with these keys, and perhaps others of the entries that
--- pass.
-pub record HasKeys (p : ℕ → Bool) (entries : List Entry) (keys old found : List ℕ) : Type 0 where
+-- the position of an entry that a query searches for
+pub record IsSought (query : Query) (entries : List Entry) (x : ℕ) : Type 0 where
+  pub of : Entry
+  pub there : Contains entries of
+  pub sought : IsTrue (is_sought query of)
+  pub item : entry_item of ≡ x
+
+-- Positions that were there, those of the entries with these keys that a query searches for, and perhaps of others of the
+-- entries that it searches for.
+pub record HasKeys (query : Query) (entries : List Entry) (keys old found : List ℕ) : Type 0 where
   pub kept : (x : ℕ) → Contains old x → Contains found x
-  pub has : (e : Entry) → Contains entries e → Contains keys e.key → IsTrue (p e.item) → Contains found e.item
-  pub only : (n : ℕ) → All (λ (e : Entry). e.item < n) entries → All (PassesBelow n p) old →
-      All (PassesBelow n p) found
+  pub has : (e : Entry) → Contains entries e → Contains keys (entry_key e) → IsTrue (is_sought query e) →
+      Contains found (entry_item e)
+  pub only : (x : ℕ) → Contains found x → Contains old x ⊎ IsSought query entries x

@@ -1,5 +1,5 @@
 -- The cells of a uniform grid, their keys, and the entries of the cells that boxes cover.
-use Rattle.std.specs.Prelude.{ℕ, ◌+◌, ◌-◌, ◌*◌, ◌/◌, ◌%◌, ◌<◌, ◌≤◌, Bool, ◌&&◌, not, if◌then◌else◌, nat_le, ℤ, pos, ◌+ℤ◌, ◌-ℤ◌, List, [], length, map, max, min, unsigned_abs, IsTrue}
+use Rattle.std.specs.Prelude.{ℕ, ◌+◌, ◌-◌, ◌*◌, ◌/◌, ◌%◌, ◌<◌, ◌≤◌, Bool, ◌&&◌, not, if◌then◌else◌, nat_le, int_le, ℤ, pos, neg_ℤ, ◌+ℤ◌, ◌-ℤ◌, List, [], length, map, max, min, unsigned_abs, IsTrue}
 use Rattle.std.specs.List.{flat_map, range_with_len}
 use Rattle.std.specs.List.Sorted.{IsNonDecreasingBy, IsPermutation}
 use Rattle.space3.specs.declared.boxes.BoundingBox.{BoundingBox}
@@ -85,12 +85,56 @@ slab_keys c x = flat_map (λ k. row_keys c x (c.y + k)) (range_with_len 0 c.dept
 abbrev pub keys_over : Cells → List ℕ
 keys_over c = flat_map (λ k. slab_keys c (c.x + k)) (range_with_len 0 c.width)
 
-abbrev pub entry : ℕ → ℕ → Entry
-entry key item = record { key = key; item = item }
+-- a position and a key as numbers of 32 bits; greater positions have lesser ones
+abbrev pub short_item : ℕ → ℤ
+short_item item = pos 2147483647 -ℤ pos item
+
+abbrev pub short_key : ℕ → ℤ
+short_key key = pos key -ℤ pos 2147483648
+
+-- the numbers of one corner, those of another with the other sign, a position and a key
+abbrev pub numbers_of : V3 → V3 → ℕ → ℕ → Entry
+numbers_of near far item key = record {
+  x = near.x;
+  y = near.y;
+  z = near.z;
+  far_x = neg_ℤ far.x;
+  far_y = neg_ℤ far.y;
+  far_z = neg_ℤ far.z;
+  item = short_item item;
+  key = short_key key;
+}
+
+-- a box, with its position, that covers the cell with a key
+abbrev pub entry_at : ℕ → ℕ → BoundingBox → Entry
+entry_at key item b = numbers_of b.least b.greatest item key
+
+-- the key of an entry, and the position of its box
+abbrev pub entry_key : Entry → ℕ
+entry_key e = unsigned_abs (e.key +ℤ pos 2147483648)
+
+abbrev pub entry_item : Entry → ℕ
+entry_item e = unsigned_abs (pos 2147483647 -ℤ e.item)
+
+-- no number of an entry is above that of a bound
+abbrev pub is_below : Entry → Entry → Bool
+is_below bound e =
+    int_le e.item bound.item
+    && ((int_le e.x bound.x && int_le e.y bound.y && int_le e.z bound.z)
+    && (int_le e.far_x bound.far_x && int_le e.far_y bound.far_y && int_le e.far_z bound.far_z))
+    && int_le e.key bound.key
+
+-- below this bound are the entries that a query searches for among those with a key
+abbrev pub bound_of : Query → ℕ → Entry
+bound_of query key = numbers_of query.reached.greatest query.reached.least query.from key
+
+-- a query searches for an entry
+abbrev pub is_sought : Query → Entry → Bool
+is_sought query e = is_below (bound_of query (entry_key e)) e
 
 -- an entry for each of these cells
-abbrev pub entries_of : Cells → ℕ → List Entry
-entries_of c item = map (λ key. entry key item) (keys_over c)
+abbrev pub entries_of : Cells → ℕ → BoundingBox → List Entry
+entries_of c item b = map (λ key. entry_at key item b) (keys_over c)
 
 -- how far apart the corners of a box are along an axis
 abbrev pub side_along : (V3 → ℤ) → BoundingBox → ℕ
@@ -109,23 +153,32 @@ has level b = if level.great then is_great level.common b else not (is_great lev
 
 -- an entry for each cell of a box, where it is of the level
 abbrev pub entries_in : Level → BoundingBox → ℕ → List Entry
-entries_in level b item = if has level b then entries_of (cells_over level.side b) item else []
+entries_in level b item = if has level b then entries_of (cells_over level.side b) item b else []
 
 -- an entry for each cell of each box of the level
 abbrev pub entries_of_boxes : Level → List BoundingBox → List Entry
 entries_of_boxes level boxes =
     flat_map (λ i. entries_in level (box_at boxes i) i) (range_with_len 0 (length boxes))
 
--- an entry as one number, its key before its item
-abbrev pub number_of : Entry → ℕ
-number_of e = e.key * 4294967296 + e.item
+-- a key and a position as one number, the key before the position
+abbrev pub number : ℕ → ℕ → ℕ
+number key item = key * 4294967296 + item
 
-abbrev pub entry_of : ℕ → Entry
-entry_of n = entry (n / 4294967296) (n % 4294967296)
+-- the entry of such a number
+abbrev pub entry_of : List BoundingBox → ℕ → Entry
+entry_of boxes n = entry_at (n / 4294967296) (n % 4294967296) (box_at boxes (n % 4294967296))
+
+-- a number for each cell of a box, where it is of the level, and for each cell of each box
+abbrev pub numbers_in : Level → BoundingBox → ℕ → List ℕ
+numbers_in level b item = if has level b then map (λ key. number key item) (keys_over (cells_over level.side b)) else []
+
+abbrev pub numbers_of_boxes : Level → List BoundingBox → List ℕ
+numbers_of_boxes level boxes =
+    flat_map (λ i. numbers_in level (box_at boxes i) i) (range_with_len 0 (length boxes))
 
 -- the same entries by keys
 pub record IsSortedForm (entries sorted : List Entry) : Type 0 where
-  pub rises : IsNonDecreasingBy (λ (e : Entry). e.key) sorted
+  pub rises : IsNonDecreasingBy entry_key sorted
   pub moved : IsPermutation entries sorted
 
 -- a position from that of a query on, whose box has a common point with the one that is reached

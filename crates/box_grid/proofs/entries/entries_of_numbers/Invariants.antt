@@ -3,4 +3,4 @@ use Rattle.box_grid.specs.Calls.Cells.{entry_of}
 use Rattle.box_grid.proofs.entries.entries_of_numbers.Given as goal
 
 abbrev pub invariant-loop-number : goal.invariant-loop-number
-invariant-loop-number l = l.entries.items ≡ map entry_of (take l.number-index l.numbers)
+invariant-loop-number l = l.entries.items ≡ map (entry_of l.boxes) (take l.number-index l.numbers)

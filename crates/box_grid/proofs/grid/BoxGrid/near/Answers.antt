@@ -1,10 +1,9 @@
-use Rattle.std.proofs.Common.{◌∙◌, [], List, false, refl, subst, true}
+use Rattle.std.proofs.Common.{◌∙◌, [], List, subst}
 use Rattle.std.proofs.lemmas.Result.{IfOk-weaker}
 use Rattle.space3.specs.declared.boxes.BoundingBox.{BoundingBox}
 use Rattle.box_grid.specs.Near.{HasJust, near_positions}
-use Rattle.box_grid.specs.Calls.Buckets.{level_of}
 use Rattle.box_grid.specs.Calls.Cells.{cells_over}
-use Rattle.box_grid.proofs.NearPositions.{all_are_near, items_of_level, keys_as, levels_are_near, query_of}
+use Rattle.box_grid.proofs.NearPositions.{all_are_near, keys_as, levels_are_near, query_of}
 use Rattle.box_grid.proofs.grid.BoxGrid.near.Goals as goal
 
 pub returns-then-cell_count-len-clause-found : goal.returns-then-cell_count-len-clause-found
@@ -14,16 +13,6 @@ returns-then-cell_count-len-clause-found c =
     c.widened.ensures.value (c.deref.ensures.value ∙ c.self.view_is) c.clear.ensures.items is)
     c.append_all_touching.ensures.found
 
-pub append_touching_over-requires-clause-there : goal.append_touching_over-requires-clause-there
-append_touching_over-requires-clause-there c =
-    let g = c.self.inside in
-    items_of_level (level_of false g.side g.side) g.boxes.items c.deref-2.result.now g.common c.self.invariant.common c.deref-2.ensures.value
-
-pub append_touching_of_level-requires-clause-there : goal.append_touching_of_level-requires-clause-there
-append_touching_of_level-requires-clause-there c =
-    let g = c.self.inside in
-    items_of_level (level_of true g.side g.great_side) g.boxes.items c.deref-3.result.now g.great c.self.invariant.great c.deref-3.ensures.value
-
 pub returns-clause-found : goal.returns-clause-found
 returns-clause-found c =
     let g = c.self.inside in
@@ -32,5 +21,5 @@ returns-clause-found c =
     let found = c.append_touching_of_level.new.found.items in
     subst (λ (boxes : List BoundingBox). HasJust (near_positions c.args.reach c.args.around.now c.args.from boxes) found) c.self.view_is
     (levels_are_near c.args.reach c.args.around.now c.widened.result c.args.from g.side g.great_side g.boxes.items g.common g.great some found c.self.invariant c.widened.ensures.by_box c.widened.ensures.value
-    (keys_as query c.deref-2.result.now g.boxes.items g.common.entries c.cells_over-cells.result (cells_over g.side c.widened.result) c.clear.new.self.items [] some c.deref-2.ensures.value c.cells_over-cells.ensures.value c.clear.ensures.items c.in_ok-common.ensures.keys)
-    (keys_as query c.deref-3.result.now g.boxes.items g.great.entries (cells_over g.great_side c.widened.result) (cells_over g.great_side c.widened.result) some some found c.deref-3.ensures.value refl refl c.in_ok-great.ensures.keys))
+    (keys_as query g.common.entries c.cells_over-cells.result (cells_over g.side c.widened.result) c.clear.new.self.items [] some c.cells_over-cells.ensures.value c.clear.ensures.items c.in_ok-common.ensures.keys)
+    c.in_ok-great.ensures.keys)
