@@ -1,5 +1,5 @@
 -- All that are close are among the near pairs that are kept, while no place is far from its kept one.
-use Rattle.std.proofs.Common.{◌≡◌, ℕ, zero, suc, ◌+◌, ◌*◌, ◌≤◌, ℤ, pos, ◌+ℤ◌, ◌-ℤ◌, ◌≤ℤ◌, Bool, true, false, ◌&&◌, cond, List, [], ◌∷◌, map, length, ap, refl, subst, sym, arith, unsigned_abs}
+use Rattle.std.proofs.Common.{◌≡◌, ◌∙◌, ℕ, zero, suc, ◌+◌, ◌*◌, ◌≤◌, ℤ, pos, ◌+ℤ◌, ◌-ℤ◌, ◌≤ℤ◌, Bool, true, false, ◌&&◌, cond, List, [], ◌∷◌, map, length, ap, refl, subst, sym, arith, unsigned_abs}
 use Rattle.std.specs.Prelude.{All, nat_le}
 use Rattle.std.specs.List.{filter, fold}
 use Rattle.std.specs.Int.{int_min, int_max}
@@ -14,6 +14,7 @@ use Rattle.boundary.specs.declared.pairs.Pair.{Pair}
 use Rattle.boundary.specs.Pairs.{IsPair, pairs_of, part_pair}
 use Rattle.boundary.specs.Surface.{SurfaceLists}
 use Rattle.boundary.proofs.PairOrder.{pairs_sorted}
+use Rattle.broad_grid.specs.Held.{is_loose, loose_close_pairs_of}
 use Rattle.broad_grid.specs.Kept.{IsWhole, KeptPairs, differ_by_at_most, has_stayed, have_stayed}
 use Rattle.broad_grid.specs.NearPairs.{close_pairs_of, is_close, is_of_close_kind}
 use Rattle.broad_grid.specs.PartBoxes.{part_box}
@@ -131,13 +132,31 @@ weaker_first {A = A} p q weaker (x ∷ xs) = one (weaker_first p q weaker xs) (p
     one rest true false e f = let g = weaker x e in cc
     one rest false false e f = rw (e, rest) refl
 
+-- a test may come first or last
+swapped : {A : Type 0} (p q : A → Bool) (xs : List A) → filter p (filter q xs) ≡ filter q (filter p xs)
+swapped p q [] = refl
+swapped {A = A} p q (x ∷ xs) = one (swapped p q xs) (p x) (q x) refl refl
+  where
+    one : filter p (filter q xs) ≡ filter q (filter p xs) → (b c : Bool) → p x ≡ b → q x ≡ c → filter p (cond (q x) (x ∷ filter q xs) (filter q xs)) ≡ filter q (cond (p x) (x ∷ filter p xs) (filter p xs))
+    one rest true true e f = rw (e, f) (rw e (ap (λ (l : List A). x ∷ l) rest))
+    one rest true false e f = rw (e, f) rest
+    one rest false true e f = rw (e, f) (rw e rest)
+    one rest false false e f = rw (e, f) rest
+
 pub all_among_kept : (s : SurfaceLists) (kept : KeptPairs) (x : List V3) → length x ≡ length kept.places → have_stayed kept.margin kept.places x ≡ true → IsWhole s kept →
-    filter (is_close kept.reach s x) kept.pairs ≡ close_pairs_of kept.reach s x
+    filter (is_close kept.reach s x) kept.pairs ≡ loose_close_pairs_of kept.fixed kept.reach s x
 all_among_kept s kept x same stayed whole =
     let close = is_close kept.reach s x in
-    rw whole.pairs (weaker_first close (is_close (kept.reach + 2 * kept.margin) s kept.places) (near_before kept.reach kept.margin s kept.places x same stayed) (pairs_of s))
+    let near = is_close (kept.reach + 2 * kept.margin) s kept.places in
+    ap (filter close) whole.pairs ∙ swapped close (is_loose kept.fixed s) (filter near (pairs_of s))
+    ∙ ap (filter (is_loose kept.fixed s)) (weaker_first close near (near_before kept.reach kept.margin s kept.places x same stayed) (pairs_of s))
 
 -- what is kept are pairs of the surface
 pub kept_are_pairs : (s : SurfaceLists) (kept : KeptPairs) → IsWhole s kept → All (IsPair s) kept.pairs
 kept_are_pairs s kept whole =
-    subst (All (IsPair s)) (sym whole.pairs) (All-filter (is_close (kept.reach + 2 * kept.margin) s kept.places) (IsPair s) (pairs_of s) (pairs_sorted s).each)
+    let near = is_close (kept.reach + 2 * kept.margin) s kept.places in
+    subst (All (IsPair s)) (sym whole.pairs) (All-filter (is_loose kept.fixed s) (IsPair s) (filter near (pairs_of s)) (All-filter near (IsPair s) (pairs_of s) (pairs_sorted s).each))
+
+-- close ones are
+pub close_are_pairs : (s : SurfaceLists) (reach : ℕ) (x : List V3) (found : List Pair) → found ≡ close_pairs_of reach s x → All (IsPair s) found
+close_are_pairs s reach x found e = subst (All (IsPair s)) (sym e) (All-filter (is_close reach s x) (IsPair s) (pairs_of s) (pairs_sorted s).each)

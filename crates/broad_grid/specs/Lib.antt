@@ -1,4 +1,5 @@
 pub mod Calls
+pub mod Held
 pub mod Kept
 pub mod NearPairs
 pub mod PartBoxes

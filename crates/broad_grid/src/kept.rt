@@ -8,10 +8,12 @@ ghost use Rattle.space3.specs.Vectors.{AtMost};
 ghost use Rattle.boundary.specs.Pairs.{IsPair};
 ghost use Rattle.box_grid.specs.Near.{LiesInTheBox};
 ghost use Rattle.broad_grid.specs.Kept.{IsWhole, differ_by_at_most, has_stayed, have_stayed};
-ghost use Rattle.broad_grid.specs.NearPairs.{close_pairs_of, is_close};
+ghost use Rattle.broad_grid.specs.NearPairs.{is_close};
+ghost use Rattle.broad_grid.specs.Held.{loose_close_pairs_of};
 ghost use Rattle.broad_grid.specs.Calls.Boxes.{HasBoth, has_close_boxes};
 
 use crate::boxes::{BoxLists, box_lists};
+use crate::held::loose_among;
 use crate::list::PairList;
 use crate::near::append_where;
 use crate::pairs::close_pairs;
@@ -29,6 +31,7 @@ pub const KEPT_LIMIT: u32 = 1024;
 #[derive(Drop)]
 pub struct Kept {
     places: Places,
+    fixed: Vec<bool>,
     reach: u32,
     margin: u32,
     pairs: PairList,
@@ -41,6 +44,7 @@ impl Model for Kept {
 
     ghost view = { λ k. record {
       places = k.places;
+      fixed = k.fixed.items;
       reach = k.reach;
       margin = k.margin;
       pairs = k.pairs;
@@ -50,10 +54,12 @@ impl Model for Kept {
 impl Kept {
     /// Keeps the pairs of a vertex and a triangle and those of two edges from which [`Kept::close`] finds those with a
     /// gap of at most `reach`, until a node has moved from `x` by more than `margin` along an axis. Both are in grid
-    /// units, at most [`KEPT_LIMIT`]. Each vertex has a place.
+    /// units, at most [`KEPT_LIMIT`]. Each vertex has a place. Pairs of which each node is fixed, by a flag for each node,
+    /// are left out.
     pub fn open(
         alloc: Global,
         surface: &Surface,
+        fixed: &[bool],
         x: &Places,
         reach: u32,
         margin: u32,
@@ -62,23 +68,28 @@ impl Kept {
         requires reach { reach ≤ KEPT_LIMIT }
         requires margin { margin ≤ KEPT_LIMIT }
         ensures places { IfOk result (λ kept. kept.places ≡ x.now) }
+        ensures fixed { IfOk result (λ kept. kept.fixed ≡ fixed.now) }
         ensures reach { IfOk result (λ kept. kept.reach ≡ reach) }
         ensures margin { IfOk result (λ kept. kept.margin ≡ margin) }
         ensures whole { IfOk result (IsWhole surface.now) }
     {
         let places = x.copy(alloc)?;
-        let pairs = close_pairs(alloc, surface, x, reach + 2 * margin)?;
+        let near = close_pairs(alloc, surface, x, reach + 2 * margin)?;
+        let pairs = loose_among(alloc, surface, fixed, near.items())?;
+        let fixed = fixed.to_vec(alloc)?;
         Ok(Kept {
             places,
+            fixed,
             reach,
             margin,
             pairs,
         })
     }
 
-    /// The pairs whose parts' boxes at `x` have a gap of at most the reach along each axis: those of the kept ones where
-    /// no node is farther than the margin from its kept place along an axis, else all of the surface's, as
-    /// [`close_pairs`] gives them. There is a kept place for each place, and what is kept are pairs of the surface.
+    /// The pairs whose parts' boxes at `x` have a gap of at most the reach along each axis, and of which some node isn't
+    /// fixed: those of the kept ones where no node is farther than the margin from its kept place along an axis, else
+    /// all of the surface's, in the order of [`close_pairs`]. There is a kept place for each place, and what is kept are
+    /// pairs of the surface.
     pub fn close(
         &self,
         alloc: Global,
@@ -95,15 +106,23 @@ impl Kept {
             pairs ≡ filter (is_close self.now.reach surface.now x.now) self.now.pairs) }
         ensures anew { let stayed = have_stayed self.now.margin self.now.places x.now in
             IfOk result (λ pairs. stayed ≡ false →
-            pairs ≡ close_pairs_of self.now.reach surface.now x.now) }
+            pairs ≡ loose_close_pairs_of self.now.fixed self.now.reach surface.now x.now) }
         ensures whole { IfOk result (λ pairs. IsWhole surface.now self.now →
-            pairs ≡ close_pairs_of self.now.reach surface.now x.now) }
+            pairs ≡ loose_close_pairs_of self.now.fixed self.now.reach surface.now x.now) }
     {
         if have_stayed(self.margin, &self.places, x) {
             close_among(alloc, surface, x, self.reach, self.pairs.items())
         } else {
-            close_pairs(alloc, surface, x, self.reach)
+            let close = close_pairs(alloc, surface, x, self.reach)?;
+            loose_among(alloc, surface, &self.fixed, close.items())
         }
+    }
+
+    /// The kept places.
+    pub fn places(&self) -> &Places
+        ensures { result.now ≡ self.now.places }
+    {
+        &self.places
     }
 
     /// Whether no node at `x` is farther than the margin from its kept place along an axis, so that the close pairs are

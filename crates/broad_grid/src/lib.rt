@@ -1,17 +1,19 @@
 //! The pairs of a surface's parts whose boxes touch in a motion, and those whose boxes are close at one moment, found
 //! by uniform grids without a look at each pair; or, where little has moved, among pairs that were kept.
 //!
-//! `pairs`: the public calls. `near`: the walk over first parts. `boxes`: the boxes of all parts. `kept`: pairs that are
-//! kept. `list`: a list of pairs. `laws`: what holds of the pairs that are left out.
+//! `pairs`: the public calls. `near`: the walk over first parts. `boxes`: the boxes of all parts. `held`: nodes that
+//! can't move. `kept`: pairs that are kept. `list`: a list of pairs. `laws`: what holds of the pairs that are left out.
 #![tactic(auto)]
 
 mod boxes;
+mod held;
 mod kept;
 mod laws;
 mod list;
 mod near;
 mod pairs;
 
+pub use held::{are_held, is_loose};
 pub use kept::{KEPT_LIMIT, Kept};
 pub use laws::untouched_pairs_are_certified;
 pub use list::PairList;

@@ -1,11 +1,11 @@
 -- Close parts may push each other, and there are not too many.
-use Rattle.std.proofs.Common.{◌≡◌, ◌∙◌, ℕ, ◌+◌, ◌*◌, ◌<◌, ◌≤◌, ℤ, pos, ◌≤ℤ◌, true, List, map, length, unsigned_abs, inl, inr, mul-le-mul, ap, sym, subst, arith}
+use Rattle.std.proofs.Common.{◌≡◌, ◌∙◌, ℕ, ◌+◌, ◌*◌, ◌<◌, ◌≤◌, ℤ, pos, ◌≤ℤ◌, true, List, map, length, unsigned_abs, inl, inr, mul-le-mul, refl, ap, sym, subst, arith}
 use Rattle.std.specs.Prelude.{All}
 use Rattle.std.specs.List.{Contains}
 use Rattle.std.proofs.lemmas.Bool.{and_parts}
 use Rattle.std.proofs.lemmas.Int.{ints}
 use Rattle.std.proofs.lemmas.List.{length-map}
-use Rattle.std.proofs.lemmas.List.Elements.{All-append, All-contains, All-contains_itself, All-map, All-weaker}
+use Rattle.std.proofs.lemmas.List.Elements.{All-append, All-contains, All-contains_itself, All-filter, All-map, All-weaker}
 use Rattle.list_laws.proofs.Membership.{Contains-from_filter}
 use Rattle.space3.specs.declared.lists.Tet.{Tet}
 use Rattle.space3.specs.declared.vectors.V3.{V3}
@@ -17,10 +17,11 @@ use Rattle.boundary.specs.declared.pairs.PairKind.TheVariants.{VE, VT, EE, ET}
 use Rattle.boundary.specs.Calls.Parts.{IsPart}
 use Rattle.boundary.specs.Pairs.{IsPair, pairs_of, part_pair}
 use Rattle.boundary.specs.Surface.{SurfaceLists}
-use Rattle.boundary.proofs.PairNodes.{nodes_differ}
+use Rattle.boundary.proofs.PairNodes.{few_pass, nodes_differ}
 use Rattle.boundary.proofs.PairOrder.{pairs_sorted}
 use Rattle.boundary.proofs.SidesOfTets.{IsSide, first_is_side, first_size, second_is_side, second_size}
 use Rattle.boundary.proofs.SurfaceParts.{first_of_pair, second_of_pair}
+use Rattle.broad_grid.specs.Held.{is_loose, loose_close_pairs_of}
 use Rattle.broad_grid.specs.NearPairs.{close_pairs_of, is_close, is_of_close_kind}
 use Rattle.broad_grid.proofs.CloseCounts.{few_close_pairs}
 use Rattle.surface_mesh.specs.declared.setup.Setup.{Setup}
@@ -139,3 +140,12 @@ found_are_close s x pairs h stands e = subst (All (IsClosePair s x)) (sym e) (ar
 
 pub found_are_few : (s : Setup) (x : List V3) (pairs : List Pair) → IsSetup s → pairs ≡ close_pairs_of (unsigned_abs s.numbers.dhat) s.surface x → length pairs ≤ MOST_CLOSE
 found_are_few s x pairs h e = omega (arith, few_close_parts s x h, length-map pairs (part_pair s.surface), ap (λ (found : List Pair). length (map (part_pair s.surface) found)) e)
+
+-- those of them that are loose
+pub loose_are_close : (s : Setup) (x : List V3) (pairs : List Pair) → IsSetup s → IsUpright s x → pairs ≡ loose_close_pairs_of s.fixed (unsigned_abs s.numbers.dhat) s.surface x → All (IsClosePair s x) pairs
+loose_are_close s x pairs h stands e = subst (All (IsClosePair s x)) (sym e) (All-filter (is_loose s.fixed s.surface) (IsClosePair s x) (close_pairs_of (unsigned_abs s.numbers.dhat) s.surface x) (are_close_pairs s x h stands))
+
+pub loose_are_few : (s : Setup) (x : List V3) (pairs : List Pair) → IsSetup s → pairs ≡ loose_close_pairs_of s.fixed (unsigned_abs s.numbers.dhat) s.surface x → length pairs ≤ MOST_CLOSE
+loose_are_few s x pairs h e =
+    let close = close_pairs_of (unsigned_abs s.numbers.dhat) s.surface x in
+    omega (arith, ap length e, few_pass (is_loose s.fixed s.surface) close, found_are_few s x close h refl)

@@ -10,14 +10,14 @@ use Rattle.std.proofs.lemmas.Simd.{map-map}
 use Rattle.std.proofs.lemmas.Int.{ints, to_z-of_z, fits_signed_from_abs}
 use Rattle.whole_laws.proofs.Order.{size_sum}
 use Rattle.list_laws.specs.Sums.{total}
+use Rattle.list_laws.proofs.Filters.{filter-map}
 use Rattle.num_q.specs.Rounding.{floor_of}
 use Rattle.space3.specs.declared.vectors.V3.{V3}
 use Rattle.space3.specs.Vectors.{AtMost, dot_product}
 use Rattle.space3.specs.Mesh.{place_of}
 use Rattle.safe_motion.specs.Safety.{PartPair}
 use Rattle.boundary.specs.declared.pairs.Pair.{Pair}
-use Rattle.boundary.specs.Pairs.{part_pair}
-use Rattle.broad_grid.specs.NearPairs.{close_pairs_of}
+use Rattle.broad_grid.specs.Held.{are_held, loose_close_pairs_of}
 use Rattle.fixed_log.specs.Logarithm.{ln_ratio_of}
 use Rattle.near_pair.specs.declared.near.Near.{Near}
 use Rattle.near_pair.specs.Answers.{near_between, squared_distance}
@@ -40,10 +40,13 @@ use Rattle.potential_sum.specs.Calls.Barriers.{barrier_at}
 use Rattle.potential_sum.specs.Calls.Friction.{friction_at}
 use Rattle.potential_sum.specs.Calls.Inertia.{energy_at}
 use Rattle.potential_sum.specs.Calls.Kept.{elastic_in}
+use Rattle.potential_sum.specs.Calls.Loose.{held, loose}
 use Rattle.potential_sum.specs.Contributions.{Contribution, barrier_contribution, elastic_contribution, friction_contribution, inertia_contribution}
 use Rattle.potential_sum.specs.Contacts.{close_parts}
+use Rattle.potential_sum.specs.Held.{held_energy, held_parts, held_tets, loose_tets}
 use Rattle.potential_sum.specs.Potential.{potential}
 use Rattle.potential_sum.specs.Terms.{FrameTerms}
+use Rattle.potential_sum.proofs.LooseParts.{energies_of_both, of_loose_pairs, of_loose_tets}
 use Rattle.potential_sum.proofs.OtherOrders.{total-permutation}
 
 -- a sum of i numbers of at most 2^90 each, and one such number more
@@ -118,19 +121,48 @@ energies-of nodes tets pairs contacts =
     joined xs ys = ap total (map-append energy xs ys) ∙ total-append (map energy xs) (map energy ys)
 
 -- the energies of images
-energies-map : {X Y : Type 0} (f : Y → Contribution) (g : X → Y) (xs : List X) (ys : List Y) → map g xs ≡ ys → total (map (λ x. (f (g x)).energy) xs) ≡ total (map (λ part. part.energy) (map f ys))
+pub energies-map : {X Y : Type 0} (f : Y → Contribution) (g : X → Y) (xs : List X) (ys : List Y) → map g xs ≡ ys → total (map (λ x. (f (g x)).energy) xs) ≡ total (map (λ part. part.energy) (map f ys))
 energies-map f g xs ys e =
     ap total (sym (map-map (λ y. (f y).energy) g xs) ∙ ap (map (λ y. (f y).energy)) e ∙ sym (map-map (λ (part : Contribution). part.energy) f ys))
 
+-- the energies of tetrahedra, in another order
+pub elastic-kept : (places : List V3) (tets : List ElasticTet) (bodies : List Body) → IsPermutation tets (map elastic_in bodies) →
+    total (map (λ body. (elastic_contribution places (elastic_in body)).energy) bodies) ≡ total (map (λ part. part.energy) (map (elastic_contribution places) tets))
+elastic-kept places tets bodies kept =
+    energies-map (elastic_contribution places) elastic_in bodies (map elastic_in bodies) refl
+    ∙ total-permutation (map energy (map (elastic_contribution places) tets)) (map energy (map (elastic_contribution places) (map elastic_in bodies)))
+    (IsPermutation-map energy _ _ (IsPermutation-map (elastic_contribution places) tets (map elastic_in bodies) kept))
+  where
+    energy : Contribution → ℤ
+    energy part = part.energy
+
+-- the energy of the held contributions
+energies-held : (s : Setup) (x : List V3) → total (map (λ part. part.energy) (held s.fixed (map (elastic_contribution x) (elastic_tets s))))
+    +ℤ total (map (λ part. part.energy) (held s.fixed (map (barrier_contribution s.numbers x) (close_parts s x)))) ≡ held_energy s x
+energies-held s x = (λ i. of_tets i +ℤ of_parts i)
+  where
+    energy : Contribution → ℤ
+    energy part = part.energy
+
+    is_held : Contribution → Bool
+    is_held part = are_held s.fixed part.nodes
+
+    of_tets : total (map energy (held s.fixed (map (elastic_contribution x) (elastic_tets s)))) ≡ total (map (λ tet. (elastic_contribution x tet).energy) (held_tets s))
+    of_tets = ap (λ (parts : List Contribution). total (map energy parts)) (filter-map is_held (elastic_contribution x) (elastic_tets s)) ∙ ap total (map-map energy (elastic_contribution x) (held_tets s))
+
+    of_parts : total (map energy (held s.fixed (map (barrier_contribution s.numbers x) (close_parts s x)))) ≡ total (map (λ parts. (barrier_contribution s.numbers x parts).energy) (held_parts s x))
+    of_parts = ap (λ (parts : List Contribution). total (map energy parts)) (filter-map is_held (barrier_contribution s.numbers x) (close_parts s x)) ∙ ap total (map-map energy (barrier_contribution s.numbers x) (held_parts s x))
+
 -- the potential, from what is kept and from the pairs that were found
-pub potential-kept : (s : Setup) (frame : FrameTerms) (places : List V3) (bodies : List Body) (pairs : List Pair) (contacts : List Contact) → length places ≡ length s.mesh.numbers → IsPermutation (elastic_tets s) (map elastic_in bodies) →
-    pairs ≡ close_pairs_of (unsigned_abs s.numbers.dhat) s.surface places → map lagged_in contacts ≡ frame.contacts →
-    ((total (map (energy_at s.mass frame.targets places) (range_with_len 0 (length places))) +ℤ total (map (λ body. (elastic_contribution places (elastic_in body)).energy) bodies)) +ℤ total (map (λ pair. (barrier_at s places pair).energy) pairs))
-    +ℤ total (map (λ contact. (friction_at s.numbers places contact).energy) contacts) ≡ potential s frame places
-potential-kept s frame places bodies pairs contacts e kept found lagged =
-    (λ i. ((total (map (energy_at s.mass frame.targets places) (range_with_len 0 (e i))) +ℤ of_tets i) +ℤ of_pairs i) +ℤ of_contacts i)
-    ∙ (λ i. ((total (sym (map-map energy (inertia_contribution s frame places) (node_positions s.mesh)) i) +ℤ sum (map (elastic_contribution places) (elastic_tets s))) +ℤ sum (map (barrier_contribution s.numbers places) (close_parts s places))) +ℤ sum (map (friction_contribution s.numbers places) frame.contacts))
-    ∙ sym (energies-of (map (inertia_contribution s frame places) (node_positions s.mesh)) (map (elastic_contribution places) (elastic_tets s)) (map (barrier_contribution s.numbers places) (close_parts s places)) (map (friction_contribution s.numbers places) frame.contacts))
+pub potential-kept : (s : Setup) (frame : FrameTerms) (x : List V3) (bodies : List Body) (pairs : List Pair) (contacts : List Contact) → length x ≡ length s.mesh.numbers → IsPermutation (loose_tets s) (map elastic_in bodies) →
+    pairs ≡ loose_close_pairs_of s.fixed (unsigned_abs s.numbers.dhat) s.surface x → map lagged_in contacts ≡ frame.contacts →
+    (((total (map (energy_at s.mass frame.targets x) (range_with_len 0 (length x))) +ℤ total (map (λ body. (elastic_contribution x (elastic_in body)).energy) bodies)) +ℤ total (map (λ pair. (barrier_at s x pair).energy) pairs))
+    +ℤ total (map (λ contact. (friction_at s.numbers x contact).energy) contacts)) +ℤ held_energy s x ≡ potential s frame x
+potential-kept s frame x bodies pairs contacts e kept found lagged =
+    (λ i. (((of_nodes i +ℤ of_tets i) +ℤ of_pairs i) +ℤ of_contacts i) +ℤ sym (energies-held s x) i)
+    ∙ regrouped (sum nodes) (sum (loose s.fixed tets)) (sum (loose s.fixed near)) (sum rubbing) (sum (held s.fixed tets)) (sum (held s.fixed near))
+    ∙ (λ i. ((sum nodes +ℤ sym (energies_of_both s.fixed tets) i) +ℤ sym (energies_of_both s.fixed near) i) +ℤ sum rubbing)
+    ∙ sym (energies-of nodes tets near rubbing)
   where
     energy : Contribution → ℤ
     energy part = part.energy
@@ -138,14 +170,29 @@ potential-kept s frame places bodies pairs contacts e kept found lagged =
     sum : List Contribution → ℤ
     sum parts = total (map energy parts)
 
-    of_tets : total (map (λ body. (elastic_contribution places (elastic_in body)).energy) bodies) ≡ sum (map (elastic_contribution places) (elastic_tets s))
-    of_tets =
-        energies-map (elastic_contribution places) elastic_in bodies (map elastic_in bodies) refl
-        ∙ total-permutation (map energy (map (elastic_contribution places) (elastic_tets s))) (map energy (map (elastic_contribution places) (map elastic_in bodies)))
-        (IsPermutation-map energy _ _ (IsPermutation-map (elastic_contribution places) (elastic_tets s) (map elastic_in bodies) kept))
+    nodes : List Contribution
+    nodes = map (inertia_contribution s frame x) (node_positions s.mesh)
 
-    of_pairs : total (map (λ pair. (barrier_at s places pair).energy) pairs) ≡ sum (map (barrier_contribution s.numbers places) (close_parts s places))
-    of_pairs = energies-map (barrier_contribution s.numbers places) (part_pair s.surface) pairs (close_parts s places) (ap (map (part_pair s.surface)) found)
+    tets : List Contribution
+    tets = map (elastic_contribution x) (elastic_tets s)
 
-    of_contacts : total (map (λ contact. (friction_at s.numbers places contact).energy) contacts) ≡ sum (map (friction_contribution s.numbers places) frame.contacts)
-    of_contacts = energies-map (friction_contribution s.numbers places) lagged_in contacts frame.contacts lagged
+    near : List Contribution
+    near = map (barrier_contribution s.numbers x) (close_parts s x)
+
+    rubbing : List Contribution
+    rubbing = map (friction_contribution s.numbers x) frame.contacts
+
+    of_nodes : total (map (energy_at s.mass frame.targets x) (range_with_len 0 (length x))) ≡ sum nodes
+    of_nodes = (λ i. total (map (energy_at s.mass frame.targets x) (range_with_len 0 (e i)))) ∙ ap total (sym (map-map energy (inertia_contribution s frame x) (node_positions s.mesh)))
+
+    of_tets : total (map (λ body. (elastic_contribution x (elastic_in body)).energy) bodies) ≡ sum (loose s.fixed tets)
+    of_tets = elastic-kept x (loose_tets s) bodies kept ∙ ap sum (sym (of_loose_tets s x))
+
+    of_pairs : total (map (λ pair. (barrier_at s x pair).energy) pairs) ≡ sum (loose s.fixed near)
+    of_pairs = ap total (sym (map-map energy (barrier_at s x) pairs)) ∙ ap (λ (list : List Pair). sum (map (barrier_at s x) list)) found ∙ ap sum (sym (of_loose_pairs s x))
+
+    of_contacts : total (map (λ contact. (friction_at s.numbers x contact).energy) contacts) ≡ sum rubbing
+    of_contacts = energies-map (friction_contribution s.numbers x) lagged_in contacts frame.contacts lagged
+
+    regrouped : (n a b c d f : ℤ) → (((n +ℤ a) +ℤ b) +ℤ c) +ℤ (d +ℤ f) ≡ ((n +ℤ (a +ℤ d)) +ℤ (b +ℤ f)) +ℤ c
+    regrouped n a b c d f = omega (arith, ints)

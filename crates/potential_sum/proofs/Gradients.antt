@@ -18,8 +18,7 @@ use Rattle.space3.proofs.Bounds.{within_more, within-sum}
 use Rattle.vec_q.specs.Rows.{components}
 use Rattle.safe_motion.specs.Safety.{PartPair}
 use Rattle.boundary.specs.declared.pairs.Pair.{Pair}
-use Rattle.boundary.specs.Pairs.{part_pair}
-use Rattle.broad_grid.specs.NearPairs.{close_pairs_of}
+use Rattle.broad_grid.specs.Held.{loose_close_pairs_of}
 use Rattle.surface_mesh.specs.declared.materials.Numbers.{Numbers}
 use Rattle.surface_mesh.specs.declared.setup.Setup.{Setup}
 use Rattle.surface_mesh.specs.Setup.{IsSetup, node_positions}
@@ -37,7 +36,10 @@ use Rattle.potential_sum.specs.Calls.Sums.{node_sums, nothing, numbers_of, wide}
 use Rattle.potential_sum.specs.Contributions.{Contribution, barrier_contribution, contributions, elastic_contribution, friction_contribution, inertia_contribution, pull_at, vector_total}
 use Rattle.potential_sum.specs.Contacts.{close_parts}
 use Rattle.potential_sum.specs.Potential.{gradient, gradient_at}
+use Rattle.potential_sum.specs.Held.{loose_tets}
 use Rattle.potential_sum.specs.Terms.{FrameTerms, KeptTerms, StandFor}
+use Rattle.potential_sum.specs.Calls.Loose.{loose_contributions}
+use Rattle.potential_sum.proofs.LooseParts.{of_loose_pairs, of_loose_tets, pulls_of_all}
 use Rattle.potential_sum.specs.Upright.{IsUpright}
 use Rattle.potential_sum.proofs.Parts.{All-zip_right, barrier-pulls-weak, elastic-pulls-weak, friction-pulls-weak, inertia-pulls-weak}
 use Rattle.potential_sum.proofs.CloseParts.{close_parts_may_push, few_close_parts}
@@ -46,20 +48,24 @@ use Rattle.potential_sum.proofs.OtherOrders.{vector_total-permutation}
 use Rattle.potential_sum.proofs.PullSums.{length-node_sums, once-size, vector_total-append}
 
 -- ---- from what is kept, and the pairs that were found
-pub contributions-kept : (s : Setup) (frame : FrameTerms) (x : List V3) (bodies : List Body) (pairs : List Pair) (contacts : List Contact) → length x ≡ length s.mesh.numbers → IsPermutation (elastic_tets s) (map elastic_in bodies) →
-    pairs ≡ close_pairs_of (unsigned_abs s.numbers.dhat) s.surface x → map lagged_in contacts ≡ frame.contacts →
-    IsPermutation (contributions s frame x)
+pub contributions-kept : (s : Setup) (frame : FrameTerms) (x : List V3) (bodies : List Body) (pairs : List Pair) (contacts : List Contact) → length x ≡ length s.mesh.numbers → IsPermutation (loose_tets s) (map elastic_in bodies) →
+    pairs ≡ loose_close_pairs_of s.fixed (unsigned_abs s.numbers.dhat) s.surface x → map lagged_in contacts ≡ frame.contacts →
+    IsPermutation (loose_contributions s frame x)
     (map (part_at s.mass frame.targets x) (range_with_len 0 (length x)) ++ map (λ body. elastic_contribution x (elastic_in body)) bodies ++ map (barrier_at s x) pairs ++ map (friction_at s.numbers x) contacts)
 contributions-kept s frame x bodies pairs contacts e kept found lagged =
-    subst (IsPermutation (contributions s frame x)) (sym same)
+    subst (λ (parts : List Contribution). IsPermutation parts computed) (λ i. nodes ++ sym (of_loose_tets s x) i ++ sym (of_loose_pairs s x) i ++ rubbing)
+    (subst (IsPermutation (nodes ++ map (elastic_contribution x) (loose_tets s) ++ near ++ rubbing)) (sym same)
     (IsPermutation-append_left rubbing _ _ (IsPermutation-append_left near _ _
-    (IsPermutation-append_right nodes _ _ (IsPermutation-map (elastic_contribution x) (elastic_tets s) (map elastic_in bodies) kept))))
+    (IsPermutation-append_right nodes _ _ (IsPermutation-map (elastic_contribution x) (loose_tets s) (map elastic_in bodies) kept)))))
   where
+    computed : List Contribution
+    computed = map (part_at s.mass frame.targets x) (range_with_len 0 (length x)) ++ map (λ body. elastic_contribution x (elastic_in body)) bodies ++ map (barrier_at s x) pairs ++ map (friction_at s.numbers x) contacts
+
     nodes : List Contribution
     nodes = map (inertia_contribution s frame x) (node_positions s.mesh)
 
     near : List Contribution
-    near = map (barrier_contribution s.numbers x) (close_parts s x)
+    near = map (barrier_at s x) (loose_close_pairs_of s.fixed (unsigned_abs s.numbers.dhat) s.surface x)
 
     rubbing : List Contribution
     rubbing = map (friction_contribution s.numbers x) frame.contacts
@@ -70,7 +76,7 @@ contributions-kept s frame x bodies pairs contacts e kept found lagged =
     same : map (part_at s.mass frame.targets x) (range_with_len 0 (length x)) ++ map (λ body. elastic_contribution x (elastic_in body)) bodies ++ map (barrier_at s x) pairs ++ map (friction_at s.numbers x) contacts
         ≡ nodes ++ map (elastic_contribution x) (map elastic_in bodies) ++ near ++ rubbing
     same = λ i. map (inertia_contribution s frame x) (range_with_len 0 (e i)) ++ images (elastic_contribution x) elastic_in bodies (map elastic_in bodies) refl i
-        ++ images (barrier_contribution s.numbers x) (part_pair s.surface) pairs (close_parts s x) (ap (map (part_pair s.surface)) found) i
+        ++ map (barrier_at s x) (found i)
         ++ images (friction_contribution s.numbers x) lagged_in contacts frame.contacts lagged i
 
 -- the sums at all nodes don't depend on the order
@@ -81,19 +87,25 @@ pub flat_map_agree : {A : Type 0} (f g : ℕ → List A) (xs : List ℕ) → All
 flat_map_agree f g [] h = refl
 flat_map_agree f g (x ∷ xs) h = λ i. All-head (λ y. f y ≡ g y) x xs h i ++ flat_map_agree f g xs (All-tail (λ y. f y ≡ g y) x xs h) i
 
-pub numbers-sums : (s : Setup) (frame : FrameTerms) (x : List V3) (sums : List W3) → length x ≡ length s.mesh.numbers → sums ≡ node_sums (length x) (contributions s frame x) →
+pub numbers-sums : (s : Setup) (frame : FrameTerms) (x : List V3) (sums : List W3) → length x ≡ length s.mesh.numbers → sums ≡ node_sums (length x) (loose_contributions s frame x) →
     flat_map (λ node. numbers_of (slice_index_or s.fixed node false) (slice_index_or sums node nothing)) (range_with_len 0 (length sums)) ≡ gradient s frame x
 numbers-sums s frame x sums e made =
-    let parts = contributions s frame x in
+    let parts = loose_contributions s frame x in
     let n = length s.mesh.numbers in
     let sum : ℕ → W3 = λ node. wide (vector_total (map (pull_at node) parts)) in
     let f : ℕ → List ℤ = λ node. numbers_of (slice_index_or s.fixed node false) (slice_index_or sums node nothing) in
-    let g : ℕ → List ℤ = λ node. numbers_of (slice_index_or s.fixed node false) (sum node) in
+    let g : ℕ → List ℤ = λ node. numbers_of (slice_index_or s.fixed node false) (wide (vector_total (map (pull_at node) (contributions s frame x)))) in
     let same : sums ≡ node_sums n parts = made ∙ ap (λ (count : ℕ). node_sums count parts) e in
     let long : length sums ≡ n = ap length same ∙ length-node_sums n parts in
     ap (λ (count : ℕ). flat_map f (range_with_len 0 count)) long
     ∙ flat_map_agree f g (range_with_len 0 n) (All-counted (λ node. f node ≡ g node) n (λ node h.
-    ap (numbers_of (slice_index_or s.fixed node false)) (ap (λ (list : List W3). get_or list node nothing) same ∙ get_or-counted sum n node nothing h)))
+    ap (numbers_of (slice_index_or s.fixed node false)) (ap (λ (list : List W3). get_or list node nothing) same ∙ get_or-counted sum n node nothing h)
+    ∙ where_free node (slice_index_or s.fixed node false) refl))
+  where
+    where_free : (node : ℕ) (fixed : Bool) → slice_index_or s.fixed node false ≡ fixed →
+        numbers_of fixed (wide (vector_total (map (pull_at node) (loose_contributions s frame x)))) ≡ numbers_of fixed (wide (vector_total (map (pull_at node) (contributions s frame x))))
+    where_free node true e = refl
+    where_free node false e = ap (λ (v : V3). numbers_of false (wide v)) (pulls_of_all s frame x node e)
 
 -- three numbers per node
 pub length-gradient : (s : Setup) (frame : FrameTerms) (places : List V3) → length (gradient s frame places) ≡ 3 * length s.mesh.numbers

@@ -4,8 +4,11 @@ pub mod FrameContacts
 pub mod FrameMatrices
 pub mod Gradients
 pub mod HeldParts
+pub mod HeldPlaces
 pub mod KeptTerms
 pub mod Lightness
+pub mod LooseBlocks
+pub mod LooseParts
 pub mod OtherOrders
 pub mod Parts
 pub mod PullSums

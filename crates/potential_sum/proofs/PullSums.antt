@@ -103,7 +103,7 @@ pub written_back : (now old : List W3) (count : ℕ) → length now ≡ count �
 written_back now old count e = subst (λ (n : ℕ). take n (now ++ drop (length now) old) ≡ now) e (take-append_seam now (drop (length now) old))
 
 -- ---- of nodes that differ one at most is this node
-none_at : (k : ℕ) (nodes : List ℕ) (vs : List V3) → All (λ node. ¬ (node ≡ k)) nodes → sum_at k nodes vs ≡ origin
+pub none_at : (k : ℕ) (nodes : List ℕ) (vs : List V3) → All (λ node. ¬ (node ≡ k)) nodes → sum_at k nodes vs ≡ origin
 none_at k [] vs h = refl
 none_at k (node ∷ nodes) [] h = refl
 none_at k (node ∷ nodes) (v ∷ vs) h =

@@ -1,12 +1,13 @@
 -- What setups and poses give each tetrahedron.
 use Rattle.std.proofs.Common.{◌≡◌, ◌∙◌, ℕ, ◌<◌, ◌≤◌, ◌≤ℤ◌, List, length, map, get_or, sym, ap, subst, arith}
 use Rattle.std.proofs.lemmas.List.{length-map}
-use Rattle.std.specs.Prelude.{All, IsTrue}
+use Rattle.std.specs.Prelude.{All, Bool, IsTrue, filter}
 use Rattle.std.specs.List.Sorted.{IsPermutation}
-use Rattle.std.proofs.lemmas.List.Elements.{All-map, All-same}
+use Rattle.std.proofs.lemmas.List.Elements.{All-filter, All-map, All-same}
 use Rattle.std.proofs.lemmas.List.Sorted.{All-permutation, length_permutation}
 use Rattle.list_laws.proofs.Elements.{All-map_back}
 use Rattle.space3.specs.declared.vectors.V3.{V3}
+use Rattle.boundary.proofs.PairNodes.{few_pass}
 use Rattle.vec_q.specs.Widths.{AreWithin}
 use Rattle.surface_mesh.specs.declared.setup.Setup.{Setup}
 use Rattle.surface_mesh.specs.declared.sturdy.TheConstants.{LEAST_REST, LONGEST_REST}
@@ -17,7 +18,7 @@ use Rattle.surface_mesh.proofs.ShortEdges.{first_edge_is_within, second_edge_is_
 use Rattle.volume_cert.specs.declared.edges.TheConstants.{LONGEST_EDGE}
 use Rattle.neo_hooke.specs.Rest.{CanRest, edge_matrix}
 use Rattle.potential_sum.specs.declared.bodies.Body.{Body}
-use Rattle.potential_sum.specs.Bodies.{corners_at, elastic_of, elastic_tets}
+use Rattle.potential_sum.specs.Bodies.{ElasticTet, corners_at, elastic_of, elastic_tets}
 use Rattle.potential_sum.specs.Calls.Kept.{MayStand, elastic_in}
 use Rattle.potential_sum.specs.Upright.{IsUpright}
 
@@ -54,12 +55,14 @@ may_stand s x built pose = All-map (MayStand x) (elastic_of s) s.mesh.tets (λ k
       };
     })
 
--- what is kept of it may
-pub bodies_may_stand : (s : Setup) (x : List V3) (bodies : List Body) → IsSetup s → IsUpright s x → IsPermutation (elastic_tets s) (map elastic_in bodies) → All (λ body. MayStand x (elastic_in body)) bodies
-bodies_may_stand s x bodies built pose kept = All-map_back (MayStand x) elastic_in bodies (All-permutation (MayStand x) (elastic_tets s) (map elastic_in bodies) kept (may_stand s x built pose))
+-- so may what is kept of those that pass a test
+pub bodies_may_stand : (s : Setup) (x : List V3) (test : ElasticTet → Bool) (bodies : List Body) → IsSetup s → IsUpright s x → IsPermutation (filter test (elastic_tets s)) (map elastic_in bodies) → All (λ body. MayStand x (elastic_in body)) bodies
+bodies_may_stand s x test bodies built pose kept =
+    All-map_back (MayStand x) elastic_in bodies
+    (All-permutation (MayStand x) (filter test (elastic_tets s)) (map elastic_in bodies) kept (All-filter test (MayStand x) (elastic_tets s) (may_stand s x built pose)))
 
 -- no more bodies than a mesh has tetrahedra
-pub few_bodies : (s : Setup) (bodies : List Body) → IsSetup s → IsPermutation (elastic_tets s) (map elastic_in bodies) → length bodies ≤ 65536
-few_bodies s bodies built kept =
-    let e : length bodies ≡ length s.mesh.tets = sym (length-map bodies elastic_in) ∙ length_permutation (elastic_tets s) (map elastic_in bodies) kept ∙ length-map s.mesh.tets (elastic_of s) in
-    omega (arith, built.mesh_is_sound.few_tets)
+pub few_bodies : (s : Setup) (test : ElasticTet → Bool) (bodies : List Body) → IsSetup s → IsPermutation (filter test (elastic_tets s)) (map elastic_in bodies) → length bodies ≤ 65536
+few_bodies s test bodies built kept =
+    let e : length bodies ≡ length (filter test (elastic_tets s)) = sym (length-map bodies elastic_in) ∙ length_permutation (filter test (elastic_tets s)) (map elastic_in bodies) kept in
+    omega (arith, e, few_pass test (elastic_tets s), length-map s.mesh.tets (elastic_of s), built.mesh_is_sound.few_tets)

@@ -3,6 +3,7 @@ use Rattle.std.proofs.Common.{◌≡◌, ◌∙◌, ℕ, ◌+◌, ◌*◌, ◌<�
 use Rattle.std.specs.Prelude.{◌==◌, ◌&&◌, ◌||◌, All, IfNone, Option, None, Some, if◌then◌else◌, slice_index}
 use Rattle.std.specs.List.{flat_map, range_with_len}
 use Rattle.std.proofs.lemmas.Bool.Decides.{nat_tests}
+use Rattle.std.proofs.lemmas.List.Sums.{AllPass-from_list_all}
 use Rattle.std.proofs.lemmas.List.{map-append, map_more, take_all}
 use Rattle.std.proofs.lemmas.List.Elements.{All-head, All-tail}
 use Rattle.std.proofs.lemmas.List.FromFn.{map-range_with_len_more}
@@ -18,7 +19,7 @@ use Rattle.block_rows.proofs.AddedEntries.{is_other}
 use Rattle.block_rows.proofs.FreeTables.{free_again, free_agree, free_at}
 use Rattle.potential_sum.specs.Contributions.{Contribution}
 use Rattle.potential_sum.specs.Matrix.{block_total, stiffness_at}
-use Rattle.potential_sum.specs.Calls.Fixed.{AreAllFixed}
+use Rattle.broad_grid.specs.Held.{are_held}
 use Rattle.potential_sum.specs.Calls.Stiffness.{AreSixteenSmall, HasNoBlocks, HaveMore, at_pair, between, block_at, blocks_in, four_rows, in_row, in_rows, inertia_table, sixteen, sixteen_of, stiffness_of, stiffness_of_one, sum_of_tables}
 use Rattle.potential_sum.proofs.Gradients.{flat_map_agree}
 use Rattle.potential_sum.proofs.VectorSums.{origin-sum_of, sum_of-assoc, sum_of-origin}
@@ -234,13 +235,13 @@ none_added part sums h = nothing_added part sums (λ row column free. nothing_th
     either true m e = e
     either false m e = refl
 
--- nor does one between fixed nodes
-pub fixed_added : (part : Contribution) (sums : StoredSums) → AreAllFixed sums.fixed part.nodes → HaveMore (stiffness_of_one part) 16 sums sums
-fixed_added part sums h = nothing_added part sums (λ row column free. nothing_there part row column (λ i j first second.
-    elsewhere row column i j (is_other (slice_index part.nodes i) row (λ same. other (sym (h i 0 first) ∙ ap (λ node. get_or sums.fixed node false) same ∙ left_free (get_or sums.fixed row false) (get_or sums.fixed column false) free)))))
+-- nor does one between fixed nodes, which is nothing at free ones
+pub nothing_at_free : (part : Contribution) (fixed : List Bool) → are_held fixed part.nodes ≡ true → (row column : ℕ) → (get_or fixed row false || get_or fixed column false) ≡ false → stiffness_at row column part ≡ no_block
+nothing_at_free part fixed h row column free = nothing_there part row column (λ i j first second.
+    elsewhere i j (is_other (slice_index part.nodes i) row (λ same. other (sym (AllPass-from_list_all (λ node. get_or fixed node false) part.nodes h i 0 first) ∙ ap (λ node. get_or fixed node false) same ∙ left_free (get_or fixed row false) (get_or fixed column false) free))))
   where
-    elsewhere : (row column i j : ℕ) → (slice_index part.nodes i == row) ≡ false → at_pair (slice_index part.nodes i) (slice_index part.nodes j) (part.blocks i j) row column ≡ no_block
-    elsewhere row column i j e = rw e refl
+    elsewhere : (i j : ℕ) → (slice_index part.nodes i == row) ≡ false → at_pair (slice_index part.nodes i) (slice_index part.nodes j) (part.blocks i j) row column ≡ no_block
+    elsewhere i j e = rw e refl
 
     other : true ≡ false → ⊥
     other e = cc
@@ -248,6 +249,9 @@ fixed_added part sums h = nothing_added part sums (λ row column free. nothing_t
     left_free : (a b : Bool) → (a || b) ≡ false → a ≡ false
     left_free true b e = e
     left_free false b e = refl
+
+pub fixed_added : (part : Contribution) (sums : StoredSums) → are_held sums.fixed part.nodes ≡ true → HaveMore (stiffness_of_one part) 16 sums sums
+fixed_added part sums h = nothing_added part sums (nothing_at_free part sums.fixed h)
 
 -- ---- inertia
 pub inertia_more : (masses : List ℤ) (k : ℕ) → sum_of_tables (inertia_table masses k) (at_pair k k (inertia_block (get_or masses k (pos 0)))) ≡ inertia_table masses (k + 1)

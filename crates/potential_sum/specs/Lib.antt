@@ -2,6 +2,7 @@ pub mod Bodies
 pub mod Calls
 pub mod Contacts
 pub mod Contributions
+pub mod Held
 pub mod Matrix
 pub mod Potential
 pub mod Terms

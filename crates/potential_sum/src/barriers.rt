@@ -8,6 +8,7 @@ ghost use Rattle.near_pair.specs.Answers.{IsBounded, IsOn};
 ghost use Rattle.barrier_term.specs.Blocks.{barrier_block};
 ghost use Rattle.boundary.specs.Pairs.{IsPair, part_pair};
 ghost use Rattle.broad_grid.specs.NearPairs.{close_pairs_of};
+ghost use Rattle.broad_grid.specs.Held.{loose_close_pairs_of};
 ghost use Rattle.surface_mesh.specs.declared.materials.Numbers.{Numbers};
 ghost use Rattle.surface_mesh.specs.Materials.{AreNumbers};
 ghost use Rattle.surface_mesh.specs.Setup.{IsSetup};
@@ -26,7 +27,7 @@ use crate::bodies::corners_at;
 use crate::pulls::{Pull, add_pulls, pull_at};
 use barrier_term::{barrier_blocks, barrier_energy, barrier_gradient};
 use boundary::{Pair, Surface};
-use broad_grid::{Kept, PairList};
+use broad_grid::{Kept, PairList, close_pairs};
 use near_pair::{Near, near_parts};
 use space3::{Places, V3, W3};
 use std::alloc::{AllocError, Global};
@@ -44,11 +45,25 @@ pub(crate) fn keep_near_pairs(
     ensures places { IfOk result (λ kept. kept.places ≡ now.now) }
 {
     let dhat = setup.numbers.dhat as u32;
-    Kept::open(alloc, &setup.surface, now, dhat, dhat)
+    Kept::open(alloc, &setup.surface, setup.fixed.items(), now, dhat, dhat)
 }
 
 // The pairs of parts whose boxes have a gap of at most dhat.
 pub(crate) fn close_pairs_at(
+    alloc: Global,
+    setup: &Setup,
+    x: &Places,
+) -> Result<PairList, AllocError>
+    requires built { IsSetup setup.now }
+    requires pose { IsUpright setup.now x.now }
+    ensures { IfOk result (λ pairs. pairs ≡
+        close_pairs_of (unsigned_abs setup.now.numbers.dhat) setup.now.surface x.now) }
+{
+    close_pairs(alloc, &setup.surface, x, setup.numbers.dhat as u32)
+}
+
+// The pairs of parts whose boxes have a gap of at most dhat, without those of which each node is fixed.
+pub(crate) fn loose_pairs_at(
     alloc: Global,
     setup: &Setup,
     kept: &Kept,
@@ -58,7 +73,7 @@ pub(crate) fn close_pairs_at(
     requires kept { AreNearPairs setup.now kept.now }
     requires pose { IsUpright setup.now x.now }
     ensures { IfOk result (λ pairs. pairs ≡
-        close_pairs_of (unsigned_abs setup.now.numbers.dhat) setup.now.surface x.now) }
+        loose_close_pairs_of setup.now.fixed (unsigned_abs setup.now.numbers.dhat) setup.now.surface x.now) }
 {
     kept.close(alloc, &setup.surface, x)
 }

@@ -1,5 +1,5 @@
 //! The tetrahedra of bodies, made ready for many calls.
-ghost use Rattle.std.specs.Prelude.{◌≡◌, ◌≤◌, ◌<◌, ◌^◌, IfOk, All, map, length, slice_index_or};
+ghost use Rattle.std.specs.Prelude.{◌≡◌, ◌≤◌, ◌<◌, ◌^◌, IfOk, All, map, length, slice_index_or, if◌then◌else◌};
 ghost use Rattle.std.specs.List.Sorted.{IsPermutation};
 ghost use Rattle.list_laws.specs.Sums.{total};
 ghost use Rattle.space3.specs.Box.{IsInTheBox};
@@ -12,11 +12,12 @@ ghost use Rattle.surface_mesh.specs.Materials.{IsMaterial, material_of};
 ghost use Rattle.vec_q.specs.Rows.{components};
 ghost use Rattle.neo_hooke.specs.Block.{elastic_block};
 ghost use Rattle.neo_hooke.specs.Rest.{CanRest, CanStand};
-ghost use Rattle.potential_sum.specs.Bodies.{corners_at, elastic_of, elastic_tets};
+ghost use Rattle.potential_sum.specs.Bodies.{corners_at, elastic_of};
 ghost use Rattle.potential_sum.specs.Calls.Kept.{MayStand, elastic_in};
 ghost use Rattle.potential_sum.specs.Calls.Stiffness.{sixteen_of};
 ghost use Rattle.potential_sum.specs.Calls.Sums.{AreLight, pulls_of, with_parts};
 ghost use Rattle.potential_sum.specs.Contributions.{elastic_contribution};
+ghost use Rattle.potential_sum.specs.Held.{held_tets, loose_tets};
 
 use crate::blocks::Block;
 use crate::pulls::{Pull, add_pulls, pull_at};
@@ -33,14 +34,22 @@ pub(crate) struct Body {
     pub element: Element,
 }
 
-// The tetrahedra of a setup, in the order of a curve through space.
-pub(crate) fn bodies_of(alloc: Global, setup: &Setup) -> Result<Vec<Body>, AllocError>
+// The tetrahedra of a setup of which each node is fixed, where `held`, or else those of which some node isn't, in the
+// order of a curve through space.
+pub(crate) fn bodies_of(alloc: Global, setup: &Setup, held: bool) -> Result<Vec<Body>, AllocError>
     requires built { IsSetup setup.now }
     requires sturdy { IsSturdy setup.now }
-    ensures { IfOk result (λ made.
-        IsPermutation (elastic_tets setup.now) (map elastic_in made.items)) }
+    ensures { IfOk result (λ made. IsPermutation
+        (if held then held_tets setup.now else loose_tets setup.now) (map elastic_in made.items)) }
 {
-    let turns = turns_of(alloc, &setup.mesh.places, setup.mesh.tets.items())?;
+    let mesh = &setup.mesh;
+    let turns = turns_of(
+        alloc,
+        &mesh.places,
+        mesh.tets.items(),
+        setup.fixed.items(),
+        held,
+    )?;
     bodies_in_turns(alloc, setup, turns.as_slice())
 }
 

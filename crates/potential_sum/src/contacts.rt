@@ -1,6 +1,7 @@
 //! The contacts of a frame.
-ghost use Rattle.std.specs.Prelude.{◌≡◌, ◌<◌, ◌++◌, [], ◌∷◌, map, nat_lt, All, IfOk, OnOk, if◌then◌else◌};
+ghost use Rattle.std.specs.Prelude.{◌≡◌, ◌<◌, ◌++◌, [], ◌∷◌, map, nat_lt, unsigned_abs, All, IfOk, OnOk, if◌then◌else◌};
 ghost use Rattle.space3.specs.Box.{IsInTheBox};
+ghost use Rattle.broad_grid.specs.NearPairs.{close_pairs_of};
 ghost use Rattle.near_pair.specs.Answers.{IsBounded, IsOn, squared_distance};
 ghost use Rattle.barrier_term.specs.Barrier.{barrier_slope, reach_of};
 ghost use Rattle.friction_lag.specs.Contacts.{contact_of};
@@ -9,12 +10,11 @@ ghost use Rattle.surface_mesh.specs.Materials.{AreNumbers};
 ghost use Rattle.surface_mesh.specs.Setup.{IsSetup};
 ghost use Rattle.potential_sum.specs.Calls.Barriers.{MayPush, parts_in};
 ghost use Rattle.potential_sum.specs.Contacts.{contact_at, contacts_of, is_active};
-ghost use Rattle.potential_sum.specs.Terms.{AreNearPairs};
 ghost use Rattle.potential_sum.specs.Upright.{IsUpright};
 
-use crate::barriers::{Nearest, TwoParts, close_pairs_at, parts_of};
+use crate::barriers::{Nearest, TwoParts, parts_of};
 use barrier_term::{barrier_slope, reach_of};
-use broad_grid::Kept;
+use boundary::Pair;
 use friction_lag::{Contact, contact};
 use near_pair::Near;
 use space3::Places;
@@ -25,21 +25,21 @@ use surface_mesh::{Numbers, Setup};
 /// triangle, and each two edges once.
 pub const MOST_CLOSE: u64 = 8_053_063_680;
 
-// The contacts of a frame that begins at the places `now`.
+// The contacts of a frame that begins at the places `now`, where these are the close pairs.
 pub(crate) fn contacts_at(
     alloc: Global,
     setup: &Setup,
-    kept: &Kept,
+    pairs: &[Pair],
     now: &Places,
 ) -> Result<Vec<Contact>, AllocError>
     requires built { IsSetup setup.now }
-    requires kept { AreNearPairs setup.now kept.now }
     requires pose { IsUpright setup.now now.now }
+    requires close { pairs.now ≡
+        close_pairs_of (unsigned_abs setup.now.numbers.dhat) setup.now.surface now.now }
     ensures { IfOk result (λ made. map lagged_in made.items ≡ contacts_of setup.now now.now) }
 {
-    let pairs = close_pairs_at(alloc, setup, kept, now)?;
     let mut made = Vec::new(alloc);
-    for pair in pairs.items() {
+    for pair in pairs {
         let parts = parts_of(&setup.surface, *pair);
         push_if_active(&mut made, &setup.numbers, now, parts)?;
     }

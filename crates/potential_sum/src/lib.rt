@@ -2,16 +2,17 @@
 //! parts of the surface, and of contacts.
 //!
 //! `terms`: the public calls. `inertia`, `bodies`, `barriers`, `friction`: what nodes, tetrahedra, pairs and
-//! contacts give; `turns`: the order of tetrahedra; `contacts`: the contacts of a frame. `pulls`: the sums of the gradient. `matrix`, `blocks`: the
-//! sums of the matrix; `fixed`: what it leaves out. `laws`: the matrix is symmetric.
+//! contacts give; `held`: the energy that no free node changes; `turns`: the order of tetrahedra; `contacts`: the contacts
+//! of a frame. `pulls`: the sums of the gradient. `matrix`, `blocks`: the sums of the matrix. `laws`: the matrix is
+//! symmetric.
 #![tactic(auto)]
 
 mod barriers;
 mod blocks;
 mod bodies;
 mod contacts;
-mod fixed;
 mod friction;
+mod held;
 mod inertia;
 mod laws;
 mod matrix;

@@ -17,10 +17,10 @@ ghost use Rattle.potential_sum.specs.Contributions.{barrier_contribution, elasti
 use crate::barriers::{TwoParts, parts_of};
 use crate::blocks::add_blocks;
 use crate::bodies::Body;
-use crate::fixed::are_all_fixed;
 use crate::friction::blocks_of;
 use block_rows::Sums;
 use boundary::Pair;
+use broad_grid::are_held;
 use friction_lag::Contact;
 use inertia_term::inertia_block;
 use space3::Places;
@@ -103,9 +103,6 @@ fn add_body_blocks(sums: &mut Sums, body: &Body, x: &Places) -> Result<(), Alloc
     ensures { IfOk result (λ _. HaveMore (stiffness_of_one
         (elastic_contribution x.now (elastic_in body.now))) 16 sums.old sums.new) }
 {
-    if are_all_fixed(sums.fixed(), &body.nodes) {
-        return Ok(());
-    }
     add_blocks(sums, &body.nodes, &body.blocks(x))
 }
 
@@ -144,9 +141,6 @@ fn add_pair_blocks(
     ensures { IfOk result (λ _. HaveMore (stiffness_of_one
         (barrier_contribution numbers.now x.now (parts_in parts.now))) 16 sums.old sums.new) }
 {
-    if are_all_fixed(sums.fixed(), &parts.nodes) {
-        return Ok(());
-    }
     match parts.blocks(numbers, x) {
         Some(blocks) => add_blocks(sums, &parts.nodes, &blocks),
         None => Ok(()),
@@ -187,7 +181,7 @@ fn add_contact_blocks(
     ensures { IfOk result (λ _. HaveMore (stiffness_of_one
         (friction_at numbers.now x.now contact.now)) 16 sums.old sums.new) }
 {
-    if are_all_fixed(sums.fixed(), &contact.nodes) {
+    if are_held(sums.fixed(), &contact.nodes) {
         return Ok(());
     }
     add_blocks(sums, &contact.nodes, &blocks_of(contact, numbers, x))

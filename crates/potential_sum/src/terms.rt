@@ -17,10 +17,13 @@ ghost use Rattle.potential_sum.specs.Matrix.{matrix};
 ghost use Rattle.potential_sum.specs.Potential.{gradient, potential};
 ghost use Rattle.potential_sum.specs.Terms.{StandFor, terms_of};
 
-use crate::barriers::{add_barrier_pulls, barrier_energy_of, close_pairs_at, keep_near_pairs};
+use crate::barriers::{
+    add_barrier_pulls, barrier_energy_of, close_pairs_at, keep_near_pairs, loose_pairs_at,
+};
 use crate::bodies::{Body, add_elastic_pulls, bodies_of, elastic_energy};
 use crate::contacts::contacts_at;
 use crate::friction::{add_friction_pulls, friction_energy_of};
+use crate::held::HeldEnergy;
 use crate::inertia::{add_inertia_pulls, inertia_energy_of, targets_of};
 use crate::matrix::block_sums;
 use crate::pulls::node_numbers;
@@ -35,13 +38,14 @@ use surface_mesh::Setup;
 const NOTHING: W3 = W3 { x: 0, y: 0, z: 0 };
 
 /// What the potential of a frame is made of beside its bodies: one target per node, and the contacts where it begins;
-/// and what is kept of the bodies and of the pairs that are near where it begins, so that it isn't computed at each
-/// call.
+/// and what is kept of the bodies, of the energy that no free node changes, and of the pairs that are near where it
+/// begins, so that it isn't computed at each call.
 #[derive(Drop)]
 pub struct Terms {
     targets: Vec<V3>,
     contacts: Vec<Contact>,
     bodies: Vec<Body>,
+    held: HeldEnergy,
     kept: Kept,
 }
 
@@ -56,6 +60,7 @@ impl Model for Terms {
     ghost view = { λ t. record {
       frame = record { targets = t.targets.items; contacts = map lagged_in t.contacts.items };
       elastic = map elastic_in t.bodies.items;
+      held = t.held;
       near_pairs = t.kept;
     } };
 }
@@ -80,12 +85,15 @@ impl Terms {
     {
         let targets = targets_of(alloc, setup.numbers.gravity, now, before)?;
         let kept = keep_near_pairs(alloc, setup, now)?;
-        let contacts = contacts_at(alloc, setup, &kept, now)?;
-        let bodies = bodies_of(alloc, setup)?;
+        let close = close_pairs_at(alloc, setup, now)?;
+        let contacts = contacts_at(alloc, setup, close.items(), now)?;
+        let bodies = bodies_of(alloc, setup, false)?;
+        let held = HeldEnergy::open(alloc, setup, close.items(), now)?;
         Ok(Terms {
             targets,
             contacts,
             bodies,
+            held,
             kept,
         })
     }
@@ -131,12 +139,13 @@ impl Terms {
         requires pose { IsUpright setup.now x.now }
         ensures { IfOk result (λ energy. energy ≡ potential setup.now self.now.frame x.now) }
     {
-        let pairs = close_pairs_at(alloc, setup, &self.kept, x)?;
+        let pairs = loose_pairs_at(alloc, setup, &self.kept, x)?;
         let inertia = inertia_energy_of(setup.mass.items(), self.targets.as_slice(), x);
         let elastic = elastic_energy(self.bodies.as_slice(), x);
         let barriers = barrier_energy_of(setup, x, pairs.items());
         let friction = friction_energy_of(&setup.numbers, self.contacts.as_slice(), x);
-        Ok(inertia + elastic + barriers + friction)
+        let held = self.held.at(alloc, setup, x)?;
+        Ok(inertia + elastic + barriers + friction + held)
     }
 
     /// The gradient where the nodes stand at `x`, as for [`Terms::energy`]: three numbers per node in grid units times
@@ -172,7 +181,7 @@ impl Terms {
         ensures table { IfOk result (λ rows.
             table_of rows ≡ matrix setup.now self.now.frame x.now) }
     {
-        let pairs = close_pairs_at(alloc, setup, &self.kept, x)?;
+        let pairs = loose_pairs_at(alloc, setup, &self.kept, x)?;
         let sums = block_sums(
             alloc,
             setup,
@@ -193,7 +202,7 @@ impl Terms {
         requires pose { IsUpright setup.now x.now }
         ensures { IfOk result (λ made. made.items ≡ gradient setup.now self.now.frame x.now) }
     {
-        let pairs = close_pairs_at(alloc, setup, &self.kept, x)?;
+        let pairs = loose_pairs_at(alloc, setup, &self.kept, x)?;
         let mut sums = body_sums(
             alloc,
             setup.mass.items(),

@@ -1,9 +1,11 @@
 //! The order in which tetrahedra are gone through.
 ghost use Rattle.std.specs.Prelude.{◌≡◌, ◌<◌, ◌≤◌, IfOk, All, length, map};
-ghost use Rattle.std.specs.List.{range_with_len};
 ghost use Rattle.std.specs.List.Sorted.{IsPermutation};
+ghost use Rattle.space3.specs.declared.lists.Tet.{Tet};
 ghost use Rattle.space3.specs.Mesh.{HasNodes};
+ghost use Rattle.potential_sum.specs.Calls.Turns.{is_held_as, positions_of};
 
+use broad_grid::are_held;
 use space3::{Places, Tet, V3};
 use std::alloc::{AllocError, Global};
 
@@ -14,39 +16,58 @@ pub(crate) struct Turn {
     pub tet: u32,
 }
 
-// The tetrahedra in the order of Morton's curve through space (G. M. Morton, 1966), so that in memory what one adds to is
-// near what the next does, however the nodes are numbered.
+// The tetrahedra of which each node is fixed, where `held`, or else those of which some node isn't, in the order of
+// Morton's curve through space (G. M. Morton, 1966), so that in memory what one adds to is near what the next does,
+// however the nodes are numbered.
 pub(crate) fn turns_of(
     alloc: Global,
     places: &Places,
     tets: &[Tet],
+    fixed: &[bool],
+    held: bool,
 ) -> Result<Vec<Turn>, AllocError>
     requires few { length tets.now ≤ 65536 }
     requires there { All (λ tet. HasNodes places.now tet.nodes) tets.now }
-    ensures each { IfOk result (λ turns.
-        IsPermutation (range_with_len 0 (length tets.now)) (map (λ turn. turn.tet) turns.items)) }
+    ensures each { IfOk result (λ turns. (d : Tet) →
+        IsPermutation (positions_of held fixed.now tets.now d) (map (λ turn. turn.tet) turns.items)) }
     ensures there { IfOk result (λ turns. All (λ turn. turn.tet < length tets.now) turns.items) }
 {
-    let mut turns = turns_in_order(alloc, places, tets)?;
+    let mut turns = turns_in_order(alloc, places, tets, fixed, held)?;
     sort_along(&mut turns);
     Ok(turns)
 }
 
-// The tetrahedra in the order of their list.
-fn turns_in_order(alloc: Global, places: &Places, tets: &[Tet]) -> Result<Vec<Turn>, AllocError>
+// These tetrahedra in the order of their list.
+fn turns_in_order(
+    alloc: Global,
+    places: &Places,
+    tets: &[Tet],
+    fixed: &[bool],
+    held: bool,
+) -> Result<Vec<Turn>, AllocError>
     requires few { length tets.now ≤ 65536 }
     requires there { All (λ tet. HasNodes places.now tet.nodes) tets.now }
-    ensures { IfOk result (λ turns.
-        map (λ turn. turn.tet) turns.items ≡ range_with_len 0 (length tets.now)) }
+    ensures { IfOk result (λ turns. (d : Tet) →
+        map (λ turn. turn.tet) turns.items ≡ positions_of held fixed.now tets.now d) }
 {
-    let mut turns = Vec::with_capacity(alloc, tets.len())?;
+    let mut turns = Vec::new(alloc);
     for position in 0..tets.len() {
-        turns.push(Turn {
-            along: along_curve(first_corner(places, &tets[position].nodes)),
-            tet: position as u32,
-        })?;
+        let nodes = &tets[position].nodes;
+        if is_held_as(held, fixed, nodes) {
+            turns.push(Turn {
+                along: along_curve(first_corner(places, nodes)),
+                tet: position as u32,
+            })?;
+        }
     }
     Ok(turns)
+}
+
+// Whether each of these nodes is fixed, where `held`, or else whether some isn't.
+fn is_held_as(held: bool, fixed: &[bool], nodes: &[u32; 4]) -> bool
+    ensures { result ≡ is_held_as held fixed.now nodes.now }
+{
+    are_held(fixed, nodes) == held
 }
 
 fn first_corner(places: &Places, nodes: &[u32; 4]) -> V3

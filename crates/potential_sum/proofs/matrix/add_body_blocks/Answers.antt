@@ -1,21 +1,11 @@
-use Rattle.std.proofs.Common.{◌<◌, ◌∙◌, Bool, List, refl, sym, subst}
-use Rattle.std.specs.Prelude.{All}
+use Rattle.std.proofs.Common.{refl}
 use Rattle.std.proofs.lemmas.Result.{IfOk-weaker}
 use Rattle.potential_sum.specs.Bodies.{corners_at}
-use Rattle.potential_sum.specs.Calls.Fixed.{AreAllFixed}
 use Rattle.potential_sum.specs.Calls.Kept.{elastic_in}
 use Rattle.potential_sum.specs.Contributions.{elastic_contribution}
 use Rattle.potential_sum.proofs.SmallBlocks.{elastic-blocks-small}
-use Rattle.potential_sum.proofs.Stiffness.{fixed_added, part_added, part_small}
+use Rattle.potential_sum.proofs.Stiffness.{part_added, part_small}
 use Rattle.potential_sum.proofs.matrix.add_body_blocks.Goals as goal
-
-pub are_all_fixed-requires : goal.are_all_fixed-requires
-are_all_fixed-requires c = subst (λ n. All (λ node. node < n) c.args.body.now.nodes) (sym (c.fixed.ensures.each ∙ c.requires.each)) c.requires.stand.there
-
-pub returns-then-are_all_fixed : goal.returns-then-are_all_fixed
-returns-then-are_all_fixed c =
-    fixed_added (elastic_contribution c.args.x.now (elastic_in c.args.body.now)) c.args.sums.now
-    (subst (λ (fixed : List Bool). AreAllFixed fixed c.args.body.now.nodes) c.fixed.ensures.value (c.are_all_fixed.ensures.0 c.if-are_all_fixed.true))
 
 pub add_blocks-requires-clause-small : goal.add_blocks-requires-clause-small
 add_blocks-requires-clause-small c =

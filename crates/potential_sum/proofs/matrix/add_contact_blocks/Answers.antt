@@ -1,21 +1,17 @@
-use Rattle.std.proofs.Common.{◌<◌, ◌∙◌, Bool, List, refl, sym, subst}
-use Rattle.std.specs.Prelude.{All}
+use Rattle.std.proofs.Common.{◌∙◌, Bool, List, refl, ap, sym}
 use Rattle.std.proofs.lemmas.Result.{IfOk-weaker}
+use Rattle.broad_grid.specs.Held.{are_held}
 use Rattle.friction_lag.specs.Lagged.{lagged_in}
 use Rattle.potential_sum.specs.Bodies.{corners_at}
-use Rattle.potential_sum.specs.Calls.Fixed.{AreAllFixed}
 use Rattle.potential_sum.specs.Calls.Friction.{friction_at}
 use Rattle.potential_sum.proofs.SmallBlocks.{friction-blocks-small}
 use Rattle.potential_sum.proofs.Stiffness.{fixed_added, part_added, part_small}
 use Rattle.potential_sum.proofs.matrix.add_contact_blocks.Goals as goal
 
-pub are_all_fixed-requires : goal.are_all_fixed-requires
-are_all_fixed-requires c = subst (λ n. All (λ node. node < n) c.args.contact.now.nodes) (sym (c.fixed.ensures.each ∙ c.requires.each)) c.requires.slide.there
-
-pub returns-then-are_all_fixed : goal.returns-then-are_all_fixed
-returns-then-are_all_fixed c =
+pub returns-then-are_held : goal.returns-then-are_held
+returns-then-are_held c =
     fixed_added (friction_at c.args.numbers.now c.args.x.now c.args.contact.now) c.args.sums.now
-    (subst (λ (fixed : List Bool). AreAllFixed fixed c.args.contact.now.nodes) c.fixed.ensures.value (c.are_all_fixed.ensures.0 c.if-are_all_fixed.true))
+    (ap (λ (fixed : List Bool). are_held fixed c.args.contact.now.nodes) (sym c.fixed.ensures.value) ∙ sym c.are_held.ensures ∙ c.if-are_held.true)
 
 pub add_blocks-requires-clause-small : goal.add_blocks-requires-clause-small
 add_blocks-requires-clause-small c =

@@ -1,26 +1,14 @@
-use Rattle.std.proofs.Common.{◌<◌, ◌∙◌, Bool, List, length, sym, subst}
+use Rattle.std.proofs.Common.{◌<◌, length, sym, subst}
 use Rattle.std.specs.Prelude.{All}
 use Rattle.std.proofs.lemmas.List.{take-append-drop}
 use Rattle.std.proofs.lemmas.Result.{IfOk-weaker}
 use Rattle.potential_sum.specs.Calls.Barriers.{parts_in}
-use Rattle.potential_sum.specs.Calls.Fixed.{AreAllFixed}
 use Rattle.potential_sum.specs.Contacts.{near_of_parts, points_of_parts}
 use Rattle.potential_sum.specs.Contributions.{barrier_contribution}
 use Rattle.potential_sum.proofs.HeldParts.{held_four, held_there}
 use Rattle.potential_sum.proofs.SmallBlocks.{barrier-blocks-small}
-use Rattle.potential_sum.proofs.Stiffness.{fixed_added, none_added, part_added, part_small}
+use Rattle.potential_sum.proofs.Stiffness.{none_added, part_added, part_small}
 use Rattle.potential_sum.proofs.matrix.add_pair_blocks.Goals as goal
-
-pub are_all_fixed-requires : goal.are_all_fixed-requires
-are_all_fixed-requires c =
-    subst (λ n. All (λ node. node < n) c.args.parts.now.nodes) (sym (c.fixed.ensures.each ∙ c.requires.each)) (held_there c.args.x.now c.args.parts.now c.requires.close)
-
-pub returns-then-are_all_fixed : goal.returns-then-are_all_fixed
-returns-then-are_all_fixed c =
-    let parts = c.args.parts.now in
-    let all = c.are_all_fixed.ensures.0 c.if-are_all_fixed.true in
-    fixed_added (barrier_contribution c.args.numbers.now c.args.x.now (parts_in parts)) c.args.sums.now
-    (subst (AreAllFixed c.args.sums.now.fixed) (sym (take-append-drop parts.split parts.nodes)) (subst (λ (fixed : List Bool). AreAllFixed fixed parts.nodes) c.fixed.ensures.value all))
 
 pub add_blocks-requires-clause-there : goal.add_blocks-requires-clause-there
 add_blocks-requires-clause-there c =

@@ -7,7 +7,7 @@ use Rattle.friction_lag.specs.Lagged.{lagged_in}
 use Rattle.surface_mesh.proofs.SetupFacts.{fixed_length, mass_length}
 use Rattle.potential_sum.specs.Calls.Kept.{MayStand, elastic_in}
 use Rattle.potential_sum.specs.Terms.{KeptTerms}
-use Rattle.potential_sum.proofs.CloseParts.{found_are_close, found_are_few}
+use Rattle.potential_sum.proofs.CloseParts.{loose_are_close, loose_are_few}
 use Rattle.potential_sum.proofs.FrameContacts.{held_may_slide}
 use Rattle.potential_sum.proofs.FrameMatrices.{stiffness-kept}
 use Rattle.potential_sum.proofs.KeptTerms.{elastic_kept}
@@ -22,19 +22,19 @@ block_sums-requires-clause-each_flag c = fixed_length c.args.setup.now c.require
 
 pub block_sums-requires-clause-few_bodies : goal.block_sums-requires-clause-few_bodies
 block_sums-requires-clause-few_bodies c =
-    few_bodies c.args.setup.now c.as_slice.result.now c.requires.built
+    few_bodies c.args.setup.now _ c.as_slice.result.now c.requires.built
     (elastic_kept c.args.setup.now c.args.self.now _ (ap (map elastic_in) c.as_slice.ensures.value ∙ ap (λ (t : KeptTerms). t.elastic) c.self.view_is) c.requires.stand)
 
 pub block_sums-requires-clause-few_pairs : goal.block_sums-requires-clause-few_pairs
-block_sums-requires-clause-few_pairs c = found_are_few c.args.setup.now c.args.x.now c.items.result.now c.requires.built (c.items.ensures ∙ c.in_ok-pairs.ensures)
+block_sums-requires-clause-few_pairs c = loose_are_few c.args.setup.now c.args.x.now c.items.result.now c.requires.built (c.items.ensures ∙ c.in_ok-pairs.ensures)
 
 pub block_sums-requires-clause-stand : goal.block_sums-requires-clause-stand
 block_sums-requires-clause-stand c =
     subst (All (λ body. MayStand c.args.x.now (elastic_in body))) (sym c.as_slice.ensures.value)
-    (bodies_may_stand c.args.setup.now c.args.x.now c.self.inside.bodies.items c.requires.built c.requires.pose (elastic_kept c.args.setup.now c.args.self.now _ (ap (λ (t : KeptTerms). t.elastic) c.self.view_is) c.requires.stand))
+    (bodies_may_stand c.args.setup.now c.args.x.now _ c.self.inside.bodies.items c.requires.built c.requires.pose (elastic_kept c.args.setup.now c.args.self.now _ (ap (λ (t : KeptTerms). t.elastic) c.self.view_is) c.requires.stand))
 
 pub block_sums-requires-clause-close : goal.block_sums-requires-clause-close
-block_sums-requires-clause-close c = found_are_close c.args.setup.now c.args.x.now c.items.result.now c.requires.built c.requires.pose (c.items.ensures ∙ c.in_ok-pairs.ensures)
+block_sums-requires-clause-close c = loose_are_close c.args.setup.now c.args.x.now c.items.result.now c.requires.built c.requires.pose (c.items.ensures ∙ c.in_ok-pairs.ensures)
 
 pub block_sums-requires-clause-slide : goal.block_sums-requires-clause-slide
 block_sums-requires-clause-slide c =
@@ -51,5 +51,6 @@ returns-clause-table c =
     let sums = table_of c.in_ok-sums.sums.rows in
     c.in_ok-rows.ensures.table
     ∙ ap (λ (fixed : List Bool). cut_table fixed sums) c.in_ok-sums.ensures.fixed
-    ∙ sym (cut_of_free setup.fixed sums) ∙ ap (cut_table setup.fixed) c.in_ok-sums.ensures.table ∙ cut_of_free setup.fixed _
-    ∙ ap (cut_table setup.fixed) (stiffness-kept setup c.args.self.now.frame c.args.x.now bodies c.items.result.now contacts c.requires.pose.each kept (c.items.ensures ∙ c.in_ok-pairs.ensures) lagged)
+    ∙ sym (cut_of_free setup.fixed sums)
+    ∙ ap (cut_table setup.fixed) (c.in_ok-sums.ensures.table ∙ stiffness-kept setup c.args.self.now.frame c.args.x.now bodies c.items.result.now contacts c.requires.pose.each kept (c.items.ensures ∙ c.in_ok-pairs.ensures) lagged)
+    ∙ cut_of_free setup.fixed _

@@ -12,5 +12,6 @@ returns-clause-stand c = record {
   contacts = subst (All (IsBetweenParts c.args.setup.now)) (sym c.in_ok-contacts.ensures) (contacts_are_between c.args.setup.now c.args.now.now c.requires.built c.requires.pose);
   few = rw c.in_ok-contacts.ensures (few_contacts c.args.setup.now c.args.now.now c.requires.built);
   elastic = c.in_ok-bodies.ensures;
+  held = c.in_ok-held.ensures;
   pairs = c.in_ok-kept.ensures.near;
 }

@@ -13,9 +13,10 @@ use Rattle.potential_sum.specs.Calls.Friction.{friction_at}
 use Rattle.potential_sum.specs.Calls.Inertia.{part_at}
 use Rattle.potential_sum.specs.Calls.Kept.{MayStand, elastic_in}
 use Rattle.potential_sum.specs.Calls.Sums.{AreLight, node_sums, nothing, numbers_of, with_parts}
-use Rattle.potential_sum.specs.Contributions.{Contribution, contributions, elastic_contribution}
+use Rattle.potential_sum.specs.Contributions.{Contribution, elastic_contribution}
+use Rattle.potential_sum.specs.Calls.Loose.{loose_contributions}
 use Rattle.potential_sum.specs.Terms.{KeptTerms}
-use Rattle.potential_sum.proofs.CloseParts.{found_are_close, found_are_few}
+use Rattle.potential_sum.proofs.CloseParts.{loose_are_close, loose_are_few}
 use Rattle.potential_sum.proofs.Gradients.{contributions-kept, node_sums-permutation, numbers-sums}
 use Rattle.potential_sum.proofs.FrameContacts.{few_held, held_may_slide}
 use Rattle.potential_sum.proofs.KeptTerms.{elastic_kept, movers}
@@ -32,18 +33,18 @@ body_sums-requires-clause-nodes c =
 pub body_sums-requires-clause-stand : goal.body_sums-requires-clause-stand
 body_sums-requires-clause-stand c =
     subst (All (λ body. MayStand c.args.x.now (elastic_in body))) (sym c.as_slice-2.ensures.value)
-    (bodies_may_stand c.args.setup.now c.args.x.now c.self.inside.bodies.items c.requires.built c.requires.pose (elastic_kept c.args.setup.now c.args.self.now _ (ap (λ (t : KeptTerms). t.elastic) c.self.view_is) c.requires.stand))
+    (bodies_may_stand c.args.setup.now c.args.x.now _ c.self.inside.bodies.items c.requires.built c.requires.pose (elastic_kept c.args.setup.now c.args.self.now _ (ap (λ (t : KeptTerms). t.elastic) c.self.view_is) c.requires.stand))
 
 pub body_sums-requires-clause-few_bodies : goal.body_sums-requires-clause-few_bodies
 body_sums-requires-clause-few_bodies c =
-    few_bodies c.args.setup.now c.as_slice-2.result.now c.requires.built
+    few_bodies c.args.setup.now _ c.as_slice-2.result.now c.requires.built
     (elastic_kept c.args.setup.now c.args.self.now _ (ap (map elastic_in) c.as_slice-2.ensures.value ∙ ap (λ (t : KeptTerms). t.elastic) c.self.view_is) c.requires.stand)
 
 pub add_barrier_pulls-requires-clause-close : goal.add_barrier_pulls-requires-clause-close
-add_barrier_pulls-requires-clause-close c = found_are_close c.args.setup.now c.args.x.now c.items-2.result.now c.requires.built c.requires.pose (c.items-2.ensures ∙ c.in_ok-pairs.ensures)
+add_barrier_pulls-requires-clause-close c = loose_are_close c.args.setup.now c.args.x.now c.items-2.result.now c.requires.built c.requires.pose (c.items-2.ensures ∙ c.in_ok-pairs.ensures)
 
 pub add_barrier_pulls-requires-clause-few : goal.add_barrier_pulls-requires-clause-few
-add_barrier_pulls-requires-clause-few c = found_are_few c.args.setup.now c.args.x.now c.items-2.result.now c.requires.built (c.items-2.ensures ∙ c.in_ok-pairs.ensures)
+add_barrier_pulls-requires-clause-few c = loose_are_few c.args.setup.now c.args.x.now c.items-2.result.now c.requires.built (c.items-2.ensures ∙ c.in_ok-pairs.ensures)
 
 pub add_barrier_pulls-requires-clause-nodes : goal.add_barrier_pulls-requires-clause-nodes
 add_barrier_pulls-requires-clause-nodes c =
@@ -95,13 +96,13 @@ returns c =
     c.deref_mut-2.ensures.value ∙ written_back c.add_barrier_pulls.new.sums c.in_ok-sums.sums.items c.in_ok-sums.sums.len whole
     ∙ c.add_barrier_pulls.ensures.sums ∙ (λ i. with_parts (of_bodies i) (near (c.items-2.ensures i)))
     ∙ with_parts-sums n (inertia s.mass frame.targets ++ elasticity bodies) (near c.in_ok-pairs.pairs)
-    (All-map (IsInside n) (barrier_at s x) c.in_ok-pairs.pairs (λ k d l. barrier-part-inside s.numbers x (part_pair s.surface (get_or c.in_ok-pairs.pairs k d)) (found_are_close s x c.in_ok-pairs.pairs c.requires.built c.requires.pose c.in_ok-pairs.ensures k d l).close)) in
-    let sums : c.as_slice-4.result.now ≡ node_sums n (contributions s frame x) =
+    (All-map (IsInside n) (barrier_at s x) c.in_ok-pairs.pairs (λ k d l. barrier-part-inside s.numbers x (part_pair s.surface (get_or c.in_ok-pairs.pairs k d)) (loose_are_close s x c.in_ok-pairs.pairs c.requires.built c.requires.pose c.in_ok-pairs.ensures k d l).close)) in
+    let sums : c.as_slice-4.result.now ≡ node_sums n (loose_contributions s frame x) =
     c.as_slice-4.ensures.value ∙ written_back c.add_friction_pulls.new.sums (take c.in_ok-sums.sums.len (c.add_barrier_pulls.new.sums ++ drop (length c.add_barrier_pulls.new.sums) c.in_ok-sums.sums.items)) c.in_ok-sums.sums.len whole_after
     ∙ c.add_friction_pulls.ensures ∙ (λ i. with_parts (of_surface i) (rubbing (c.as_slice-3.ensures.value i)))
     ∙ with_parts-sums n (inertia s.mass frame.targets ++ elasticity bodies ++ near c.in_ok-pairs.pairs) (rubbing contacts)
     (All-map (IsInside n) (friction_at s.numbers x) contacts (λ k d l. friction-part-inside s.numbers x (lagged_in (get_or contacts k d)) (held_may_slide s x contacts frame.contacts c.requires.built c.requires.pose c.requires.stand.contacts lagged k d l)))
-    ∙ node_sums-permutation n (contributions s frame x) _ (contributions-kept s frame x bodies c.in_ok-pairs.pairs contacts c.requires.pose.each kept c.in_ok-pairs.ensures lagged) in
+    ∙ node_sums-permutation n (loose_contributions s frame x) _ (contributions-kept s frame x bodies c.in_ok-pairs.pairs contacts c.requires.pose.each kept c.in_ok-pairs.ensures lagged) in
     c.in_ok-made.ensures
     ∙ ap (λ (fixed : List Bool). flat_map (λ (node : ℕ). numbers_of (slice_index_or fixed node false) (slice_index_or c.as_slice-4.result.now node nothing)) (range_with_len 0 (length c.as_slice-4.result.now))) c.items-3.ensures
     ∙ numbers-sums s frame x c.as_slice-4.result.now c.requires.pose.each sums
