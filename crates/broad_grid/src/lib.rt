@@ -10,6 +10,7 @@ mod held;
 mod kept;
 mod laws;
 mod list;
+mod moving;
 mod near;
 mod pairs;
 
@@ -17,5 +18,6 @@ pub use held::{are_held, is_loose};
 pub use kept::{KEPT_LIMIT, Kept};
 pub use laws::untouched_pairs_are_certified;
 pub use list::PairList;
+pub use moving::{is_same, moving_pairs};
 pub use near::BoxTests;
 pub use pairs::{close_pairs, swept_pairs, swept_pairs_counted};
