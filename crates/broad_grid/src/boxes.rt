@@ -153,7 +153,7 @@ fn boxes_of_parts<const N: usize>(
 }
 
 // The box around the places of these nodes at the start and at the end.
-fn swept_box(x0: &Places, x1: &Places, nodes: &[u32]) -> BoundingBox
+pub(crate) fn swept_box(x0: &Places, x1: &Places, nodes: &[u32]) -> BoundingBox
     requires { IsPlaced x0.now x1.now nodes.now }
     ensures value { result ≡ swept_box x0.now x1.now nodes.now }
     ensures in_box { LiesInTheBox result }

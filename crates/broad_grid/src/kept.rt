@@ -207,7 +207,7 @@ fn has_close_boxes(boxes: &BoxLists, reach: u32, pair: Pair) -> bool
 
 // Whether the gap between two boxes is at most the reach along each axis. Their differences need no care: both are in the
 // box of places.
-fn are_close(reach: u32, a: &BoundingBox, b: &BoundingBox) -> bool
+pub(crate) fn are_close(reach: u32, a: &BoundingBox, b: &BoundingBox) -> bool
     requires first { LiesInTheBox a.now }
     requires second { LiesInTheBox b.now }
     ensures { result ≡ are_within reach a.now b.now }

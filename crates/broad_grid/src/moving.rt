@@ -1,16 +1,21 @@
 //! The pairs whose boxes touch in a motion and of which some node moves.
-ghost use Rattle.std.specs.Prelude.{◌≡◌, IfOk, All};
+ghost use Rattle.std.specs.Prelude.{◌≡◌, ◌∷◌, [], IfOk, IfSome, All, map};
 ghost use Rattle.space3.specs.Mesh.{HasNodes};
+ghost use Rattle.box_grid.specs.Near.{LiesInTheBox};
+ghost use Rattle.broad_grid.specs.Calls.Boxes.{IsPlaced};
+ghost use Rattle.broad_grid.specs.Calls.Moved.{grown, grown_by, moved_box};
 ghost use Rattle.broad_grid.specs.Moving.{is_same, moving_pairs_of, still_nodes};
 
-use crate::held::loose_among;
+use crate::boxes::swept_box;
+use crate::held::{are_held, loose_among};
 use crate::list::PairList;
-use crate::pairs::swept_pairs;
-use boundary::Surface;
-use space3::{Places, V3};
+use crate::near::{BoxTests, near_pairs};
+use boundary::{KINDS, Surface};
+use space3::{BoundingBox, Places, V3, box_around};
 use std::alloc::{AllocError, Global};
+use std::slice::from_ref;
 
-/// The pairs of [`swept_pairs`] of which some node moves, in the pair order. Each vertex has a place in both lists.
+/// The pairs of [`crate::swept_pairs`] of which some node moves, in the pair order. Each vertex has a place in both lists.
 pub fn moving_pairs(
     alloc: Global,
     surface: &Surface,
@@ -22,7 +27,9 @@ pub fn moving_pairs(
     ensures { IfOk result (λ pairs. pairs ≡ moving_pairs_of surface.now x0.now x1.now) }
 {
     let still = still_nodes(alloc, x0, x1)?;
-    let near = swept_pairs(alloc, surface, x0, x1)?;
+    let moved = moved_box(surface, x0, x1, still.as_slice());
+    let mut tests = BoxTests { n: 0 };
+    let near = near_pairs(alloc, surface, x0, x1, &KINDS, 0, moved, &mut tests)?;
     loose_among(alloc, surface, still.as_slice(), near.items())
 }
 
@@ -35,6 +42,81 @@ fn still_nodes(alloc: Global, x0: &Places, x1: &Places) -> Result<Vec<bool>, All
         .zip(x1.items())
         .map(|(p, q)| is_same(*p, *q))
         .collect(alloc)
+}
+
+// The box around the boxes of all parts of which some node moves, if there is one.
+fn moved_box(surface: &Surface, x0: &Places, x1: &Places, still: &[bool]) -> Option<BoundingBox>
+    requires start { HasNodes x0.now surface.now.vertices }
+    requires end { HasNodes x1.now surface.now.vertices }
+    ensures value { result ≡ moved_box surface.now x0.now x1.now still.now }
+    ensures in_box { IfSome result LiesInTheBox }
+{
+    let vertices = around_vertices(x0, x1, still, surface.vertices());
+    let edges = around_parts(x0, x1, still, vertices, surface.edges());
+    around_parts(x0, x1, still, edges, surface.triangles())
+}
+
+// The box around those of the vertices that move.
+fn around_vertices(
+    x0: &Places,
+    x1: &Places,
+    still: &[bool],
+    vertices: &[u32],
+) -> Option<BoundingBox>
+    requires start { HasNodes x0.now vertices.now }
+    requires end { HasNodes x1.now vertices.now }
+    ensures value { result ≡
+        grown x0.now x1.now still.now None (map (λ vertex. vertex ∷ []) vertices.now) }
+    ensures in_box { IfSome result LiesInTheBox }
+{
+    let mut around = None;
+    for vertex in vertices {
+        around = grown_by(x0, x1, still, around, from_ref(vertex));
+    }
+    around
+}
+
+// The box around another, if there is one, and those of the parts of which some node moves.
+fn around_parts<const N: usize>(
+    x0: &Places,
+    x1: &Places,
+    still: &[bool],
+    others: Option<BoundingBox>,
+    parts: &[[u32; N]],
+) -> Option<BoundingBox>
+    requires others { IfSome others LiesInTheBox }
+    requires placed { All (IsPlaced x0.now x1.now) parts.now }
+    ensures value { result ≡ grown x0.now x1.now still.now others parts.now }
+    ensures in_box { IfSome result LiesInTheBox }
+{
+    let mut around = others;
+    for part in parts {
+        around = grown_by(x0, x1, still, around, part);
+    }
+    around
+}
+
+// The box around another, if there is one, and that of a part, where some node of it moves.
+fn grown_by(
+    x0: &Places,
+    x1: &Places,
+    still: &[bool],
+    others: Option<BoundingBox>,
+    nodes: &[u32],
+) -> Option<BoundingBox>
+    requires others { IfSome others LiesInTheBox }
+    requires placed { IsPlaced x0.now x1.now nodes.now }
+    ensures value { result ≡ grown_by x0.now x1.now still.now others nodes.now }
+    ensures in_box { IfSome result LiesInTheBox }
+{
+    if are_held(still, nodes) {
+        return others;
+    }
+    let part = swept_box(x0, x1, nodes);
+    match others {
+        Some(others) => Some(box_around(&others, &part)),
+        None => Some(part),
+    }
 }
 
 /// Whether two places are the same.

@@ -1,5 +1,5 @@
 //! The walk over first parts, for each of which a grid gives the second parts that are near.
-ghost use Rattle.std.specs.Prelude.{◌≡◌, ◌<◌, ◌≤◌, ◌+◌, ◌^◌, ◌++◌, ◌∷◌, [], IfOk, All, List, ℕ, filter, length, map, not, if◌then◌else◌};
+ghost use Rattle.std.specs.Prelude.{◌≡◌, ◌<◌, ◌≤◌, ◌+◌, ◌^◌, ◌++◌, ◌∷◌, [], IfOk, IfSome, All, List, ℕ, filter, length, map, not, if◌then◌else◌};
 ghost use Rattle.std.specs.List.{Contains};
 ghost use Rattle.std.specs.List.Sorted.{IsStrictlyIncreasing};
 ghost use Rattle.space3.specs.Mesh.{HasNodes};
@@ -7,10 +7,11 @@ ghost use Rattle.boundary.specs.Pairs.{first_parts, pair_of, second_parts};
 ghost use Rattle.box_grid.specs.Near.{LiesInTheBox};
 ghost use Rattle.box_grid.specs.declared.limits.TheConstants.{REACH_LIMIT};
 ghost use Rattle.broad_grid.specs.Calls.Counts.{HasCounted};
-ghost use Rattle.broad_grid.specs.Calls.Rows.{AreFirst, HasAsMany, IsFirst, are_apart, is_apart_from, least_second, near_row, near_rows, near_rows_of_kinds};
-ghost use Rattle.broad_grid.specs.Calls.Walk.{near_pairs_of};
+ghost use Rattle.broad_grid.specs.Calls.Rows.{AreFirst, HasAsMany, IsFirst, are_apart, is_apart_from, least_second, touches_moved, wanted_row, near_rows, near_rows_of_kinds};
+ghost use Rattle.broad_grid.specs.Calls.Walk.{wanted_pairs_of};
 
 use crate::boxes::{PartBoxes, first_boxes, part_boxes, second_grid};
+use crate::kept::are_close;
 use crate::list::PairList;
 use boundary::{Pair, PairKind, Surface, share_node};
 use box_grid::{BoxGrid, Room};
@@ -40,7 +41,7 @@ struct Search {
 }
 
 /// The pairs of these kinds whose parts' boxes are within the reach, where each box holds the corners of its part at
-/// both places.
+/// both places. If there is a box of what moves, those are left out whose first part's box doesn't touch it.
 pub(crate) fn near_pairs(
     alloc: Global,
     surface: &Surface,
@@ -48,13 +49,15 @@ pub(crate) fn near_pairs(
     x1: &Places,
     kinds: &[PairKind],
     reach: u32,
+    moved: Option<BoundingBox>,
     tests: &mut BoxTests,
 ) -> Result<PairList, AllocError>
     requires start { HasNodes x0.now surface.now.vertices }
     requires end { HasNodes x1.now surface.now.vertices }
     requires reach { reach ≤ REACH_LIMIT }
+    requires moved { IfSome moved LiesInTheBox }
     ensures pairs { IfOk result (λ pairs. pairs ≡
-        near_pairs_of reach surface.now x0.now x1.now kinds.now) }
+        wanted_pairs_of moved reach surface.now x0.now x1.now kinds.now) }
     ensures tests { tests.old.n ≤ tests.new.n }
     ensures counted { IfOk result (λ pairs. HasCounted tests.old.n tests.new.n 0 (length pairs)) }
 {
@@ -69,6 +72,7 @@ pub(crate) fn near_pairs(
         &boxes,
         kinds,
         reach,
+        moved,
         &mut search,
         tests,
         &mut pairs,
@@ -82,14 +86,16 @@ fn append_kinds(
     boxes: &PartBoxes,
     kinds: &[PairKind],
     reach: u32,
+    moved: Option<BoundingBox>,
     search: &mut Search,
     tests: &mut BoxTests,
     pairs: &mut Vec<Pair>,
 ) -> Result<(), AllocError>
     requires boxes { HasAsMany surface.now boxes.now }
     requires reach { reach ≤ REACH_LIMIT }
+    requires moved { IfSome moved LiesInTheBox }
     ensures pairs { IfOk result (λ _. pairs.new.items ≡
-        pairs.old.items ++ near_rows_of_kinds reach surface.now boxes.now kinds.now) }
+        pairs.old.items ++ near_rows_of_kinds moved reach surface.now boxes.now kinds.now) }
     ensures tests { tests.old.n ≤ tests.new.n }
     ensures counted { IfOk result (λ _. HasCounted tests.old.n tests.new.n
         (length pairs.old.items) (length pairs.new.items)) }
@@ -97,7 +103,9 @@ fn append_kinds(
     for kind in kinds {
         let firsts = first_boxes(boxes, *kind);
         let grid = second_grid(boxes, *kind);
-        append_rows(surface, *kind, firsts, grid, reach, search, tests, pairs)?;
+        append_rows(
+            surface, *kind, firsts, grid, reach, moved, search, tests, pairs,
+        )?;
     }
     Ok(())
 }
@@ -109,6 +117,7 @@ fn append_rows(
     firsts: &[BoundingBox],
     grid: &BoxGrid,
     reach: u32,
+    moved: Option<BoundingBox>,
     search: &mut Search,
     tests: &mut BoxTests,
     pairs: &mut Vec<Pair>,
@@ -116,8 +125,9 @@ fn append_rows(
     requires firsts { AreFirst surface.now kind firsts.now }
     requires seconds { length grid.now ≡ length (second_parts surface.now kind) }
     requires reach { reach ≤ REACH_LIMIT }
+    requires moved { IfSome moved LiesInTheBox }
     ensures pairs { IfOk result (λ _. pairs.new.items ≡
-        pairs.old.items ++ near_rows reach surface.now kind firsts.now grid.now) }
+        pairs.old.items ++ near_rows moved reach surface.now kind firsts.now grid.now) }
     ensures tests { tests.old.n ≤ tests.new.n }
     ensures counted { IfOk result (λ _. HasCounted tests.old.n tests.new.n
         (length pairs.old.items) (length pairs.new.items)) }
@@ -128,7 +138,7 @@ fn append_rows(
             a: a as u32,
             around: firsts[a],
         };
-        append_row(surface, first, grid, reach, search, tests, pairs)?;
+        append_row(surface, first, grid, reach, moved, search, tests, pairs)?;
     }
     Ok(())
 }
@@ -139,6 +149,7 @@ fn append_row(
     first: FirstPart,
     grid: &BoxGrid,
     reach: u32,
+    moved: Option<BoundingBox>,
     search: &mut Search,
     tests: &mut BoxTests,
     pairs: &mut Vec<Pair>,
@@ -146,18 +157,34 @@ fn append_row(
     requires first { IsFirst surface.now first }
     requires seconds { length grid.now ≡ length (second_parts surface.now first.kind) }
     requires reach { reach ≤ REACH_LIMIT }
+    requires moved { IfSome moved LiesInTheBox }
     ensures pairs { IfOk result (λ _. pairs.new.items ≡
-        pairs.old.items ++ near_row reach surface.now first grid.now) }
+        pairs.old.items ++ wanted_row moved reach surface.now first grid.now) }
     ensures tests { tests.old.n ≤ tests.new.n }
     ensures counted { IfOk result (λ _. HasCounted tests.old.n tests.new.n
         (length pairs.old.items) (length pairs.new.items)) }
 {
+    if !touches_moved(moved, &first.around) {
+        return Ok(());
+    }
     let looked_at = grid.near(reach, &first.around, least_second(first), &mut search.room)?;
     tests.n = tests.n.saturating_add(looked_at);
     search.seconds.clear();
     append_apart(surface, first, search.room.found(), &mut search.seconds)?;
     keep_ascending(&mut search.seconds);
     append_pairs(first, &search.seconds, pairs)
+}
+
+// Whether a box has a common point with the box of what moves, if there is one.
+fn touches_moved(moved: Option<BoundingBox>, around: &BoundingBox) -> bool
+    requires moved { IfSome moved LiesInTheBox }
+    requires around { LiesInTheBox around.now }
+    ensures { result ≡ touches_moved moved around.now }
+{
+    match moved {
+        Some(moved) => are_close(0, &moved, around),
+        None => true,
+    }
 }
 
 // Below this position no second part counts with this first one: of two edges the lower one is first.

@@ -45,7 +45,7 @@ pub fn swept_pairs_counted(
     ensures counted { IfOk result (λ pairs.
         min (tests.old.n + length pairs) (2 ^ 64 - 1) ≤ tests.new.n) }
 {
-    near_pairs(alloc, surface, x0, x1, &KINDS, 0, tests)
+    near_pairs(alloc, surface, x0, x1, &KINDS, 0, None, tests)
 }
 
 /// The pairs of a vertex and a triangle and those of two edges, in the pair order, whose parts' boxes have a gap of at
@@ -61,5 +61,5 @@ pub fn close_pairs(
     ensures { IfOk result (λ pairs. pairs ≡ close_pairs_of reach surface.now x.now) }
 {
     let mut tests = BoxTests { n: 0 };
-    near_pairs(alloc, surface, x, x, &CLOSE_KINDS, reach, &mut tests)
+    near_pairs(alloc, surface, x, x, &CLOSE_KINDS, reach, None, &mut tests)
 }

@@ -17,6 +17,7 @@ use Rattle.safe_motion.specs.Safety.{PartPair}
 use Rattle.boundary.specs.declared.pairs.Pair.{Pair}
 use Rattle.boundary.specs.Pairs.{pairs_of, part_pair}
 use Rattle.broad_grid.specs.Held.{are_held}
+use Rattle.broad_grid.specs.Moving.{is_same}
 use Rattle.broad_grid.specs.NearPairs.{close_pairs_of, is_close, is_of_close_kind}
 use Rattle.surface_mesh.specs.declared.setup.Setup.{Setup}
 use Rattle.surface_mesh.specs.Setup.{IsSetup}
@@ -24,7 +25,7 @@ use Rattle.near_pair.specs.Answers.{near_between}
 use Rattle.neo_hooke.specs.Energy.{elastic_energy}
 use Rattle.barrier_term.specs.Barrier.{barrier_energy}
 use Rattle.potential_sum.specs.Bodies.{ElasticTet, corners_at, elastic_of, elastic_tets}
-use Rattle.potential_sum.specs.Calls.Held.{have_fixed_stayed, is_same}
+use Rattle.potential_sum.specs.Calls.Held.{have_fixed_stayed}
 use Rattle.potential_sum.specs.Contacts.{close_parts, near_of_parts, nodes_of_parts}
 use Rattle.potential_sum.specs.Held.{held_energy, held_parts, held_tets}
 use Rattle.potential_sum.proofs.LooseParts.{are_held-append}

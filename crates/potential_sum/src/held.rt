@@ -7,15 +7,15 @@ ghost use Rattle.broad_grid.specs.Held.{is_loose};
 ghost use Rattle.broad_grid.specs.NearPairs.{close_pairs_of};
 ghost use Rattle.surface_mesh.specs.Setup.{IsSetup};
 ghost use Rattle.surface_mesh.specs.Sturdy.{IsSturdy};
-ghost use Rattle.potential_sum.specs.Calls.Held.{have_fixed_stayed, is_same};
+ghost use Rattle.potential_sum.specs.Calls.Held.{have_fixed_stayed};
 ghost use Rattle.potential_sum.specs.Held.{IsHeldEnergy, held_energy};
 ghost use Rattle.potential_sum.specs.Upright.{IsUpright};
 
 use crate::barriers::{barrier_energy_of, close_pairs_at};
 use crate::bodies::{bodies_of, elastic_energy};
 use boundary::{Pair, Surface};
-use broad_grid::is_loose;
-use space3::{Places, V3};
+use broad_grid::{is_loose, is_same};
+use space3::Places;
 use std::alloc::{AllocError, Global};
 use std::marker::Model;
 use surface_mesh::Setup;
@@ -85,12 +85,6 @@ fn have_fixed_stayed(fixed: &[bool], before: &Places, now: &Places) -> bool
         .zip(before.items())
         .zip(now.items())
         .all(|((flag, p), q)| !*flag | is_same(*p, *q))
-}
-
-fn is_same(p: V3, q: V3) -> bool
-    ensures { result ≡ is_same p q }
-{
-    (p.x == q.x) & (p.y == q.y) & (p.z == q.z)
 }
 
 // The energy at x of the tetrahedra, and of those of the pairs, of which each node is fixed.

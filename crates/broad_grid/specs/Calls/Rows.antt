@@ -1,7 +1,8 @@
 -- The near pairs by their first parts.
-use Rattle.std.specs.Prelude.{ℕ, ◌≡◌, ◌+◌, ◌<◌, ◌^◌, Bool, List, [], All, length, map, filter, not, slice_index_or}
+use Rattle.std.specs.Prelude.{ℕ, ◌≡◌, ◌+◌, ◌<◌, ◌^◌, Bool, true, List, [], Option, Some, None, All, length, map, filter, not, slice_index_or, if◌then◌else◌}
 use Rattle.std.specs.List.{flat_map, range_with_len}
 use Rattle.space3.specs.declared.boxes.BoundingBox.{BoundingBox}
+use Rattle.space3.specs.Boxes.{are_within}
 use Rattle.boundary.specs.declared.pairs.Pair.{Pair}
 use Rattle.boundary.specs.declared.pairs.PairKind.{PairKind}
 use Rattle.boundary.specs.declared.pairs.PairKind.TheVariants.{VE, VT, EE, ET}
@@ -53,16 +54,26 @@ abbrev pub near_row : ℕ → SurfaceLists → FirstPart → List BoundingBox �
 near_row reach s first boxes =
     pairs_with s first (near_positions reach first.around (least_second first.kind first.a) boxes)
 
+-- a box has a common point with the box of what moves, if there is one
+abbrev pub touches_moved : Option BoundingBox → BoundingBox → Bool
+touches_moved None around = true
+touches_moved (Some moved) around = are_within 0 moved around
+
+-- the near pairs of a first part whose box has
+abbrev pub wanted_row : Option BoundingBox → ℕ → SurfaceLists → FirstPart → List BoundingBox → List Pair
+wanted_row moved reach s first boxes =
+    if touches_moved moved first.around then near_row reach s first boxes else []
+
 -- the first part of a kind at a position
 abbrev pub first_part : PairKind → List BoundingBox → ℕ → FirstPart
 first_part kind firsts a = record { kind = kind; a = a; around = box_at firsts a }
 
 -- the near pairs of a kind
-abbrev pub near_rows : ℕ → SurfaceLists → PairKind → List BoundingBox → List BoundingBox → List Pair
-near_rows reach s kind firsts seconds =
-    flat_map (λ a. near_row reach s (first_part kind firsts a) seconds) (range_with_len 0 (length firsts))
+abbrev pub near_rows : Option BoundingBox → ℕ → SurfaceLists → PairKind → List BoundingBox → List BoundingBox → List Pair
+near_rows moved reach s kind firsts seconds =
+    flat_map (λ a. wanted_row moved reach s (first_part kind firsts a) seconds) (range_with_len 0 (length firsts))
 
 -- the near pairs of some kinds
-abbrev pub near_rows_of_kinds : ℕ → SurfaceLists → BoxesOfParts → List PairKind → List Pair
-near_rows_of_kinds reach s boxes kinds =
-    flat_map (λ kind. near_rows reach s kind (first_boxes boxes kind) (second_boxes boxes kind)) kinds
+abbrev pub near_rows_of_kinds : Option BoundingBox → ℕ → SurfaceLists → BoxesOfParts → List PairKind → List Pair
+near_rows_of_kinds moved reach s boxes kinds =
+    flat_map (λ kind. near_rows moved reach s kind (first_boxes boxes kind) (second_boxes boxes kind)) kinds
