@@ -3,11 +3,14 @@ use Rattle.std.proofs.Common.{◌≡◌, ◌∙◌, ℕ, zero, suc, ◌<◌, ℤ
 use Rattle.std.specs.Prelude.{All, Option, Some, None, not, if◌then◌else◌}
 use Rattle.std.specs.Int.{int_min, int_max}
 use Rattle.std.specs.List.{filter, fold}
+use Rattle.std.specs.Ordering.{int_eq}
 use Rattle.std.proofs.lemmas.Bool.{and_parts}
+use Rattle.std.proofs.lemmas.Bool.Decides.{Decides-int_eq}
 use Rattle.std.proofs.lemmas.Int.{ints, clamps}
 use Rattle.std.proofs.lemmas.List.Elements.{All-filter, All-head, All-tail}
 use Rattle.space3.specs.declared.boxes.BoundingBox.{BoundingBox}
 use Rattle.space3.specs.declared.vectors.V3.{V3}
+use Rattle.space3.specs.Vectors.{vector}
 use Rattle.space3.specs.Boxes.{are_within, box_around, greatest_of, least_of}
 use Rattle.space3.specs.Mesh.{place_of}
 use Rattle.space3.proofs.BoxLemmas.{gap_closes, gap_parts, gap_within}
@@ -18,13 +21,20 @@ use Rattle.boundary.specs.Pairs.{IsPair, first_parts, kinds, pairs_of, part_pair
 use Rattle.boundary.specs.Surface.{SurfaceLists}
 use Rattle.boundary.proofs.PairOrder.{pairs_sorted}
 use Rattle.broad_grid.specs.Held.{are_held, is_loose}
-use Rattle.broad_grid.specs.Moving.{moving_pairs_of, still_nodes}
+use Rattle.broad_grid.specs.Moving.{is_same, moving_pairs_of, still_nodes}
 use Rattle.broad_grid.specs.NearPairs.{boxes_touch, swept_pairs_of}
 use Rattle.broad_grid.specs.PartBoxes.{swept_box}
 use Rattle.broad_grid.specs.Calls.Moved.{grown, grown_by, moved_box, with_box}
 use Rattle.broad_grid.specs.Calls.Rows.{touches_moved}
 use Rattle.broad_grid.specs.Calls.Walk.{wanted_pairs_of}
 use Rattle.broad_grid.proofs.RowsOfPairs.{filter-filter}
+
+-- ---- places that are the same
+pub same_place : (p q : V3) → is_same p q ≡ true → p ≡ q
+same_place p q e =
+    let first = and_parts (int_eq p.x q.x && int_eq p.y q.y) (int_eq p.z q.z) e in
+    let both = and_parts (int_eq p.x q.x) (int_eq p.y q.y) first.0 in
+    λ i. vector ((Decides-int_eq p.x q.x).0 both.0 i) ((Decides-int_eq p.y q.y).0 both.1 i) ((Decides-int_eq p.z q.z).0 first.1 i)
 
 -- ---- a box in another
 record IsInside (b a : BoundingBox) : Type 0 where

@@ -4,3 +4,4 @@ mod HalvingCounts
 pub mod OneStep
 mod PairMoves
 pub mod SafeSteps
+mod StillPairs

@@ -3,13 +3,13 @@ ghost use Rattle.std.specs.Prelude.{◌↔◌, ◌*◌, IfOk, IsTrue, All, lengt
 ghost use Rattle.boundary.specs.Pairs.{IsPair, part_pair};
 ghost use Rattle.pair_cert.specs.Tallies.{RisesAtMost, intervals_within};
 ghost use Rattle.safe_motion.specs.declared.depth.TheConstants.{DEPTH};
-ghost use Rattle.surface_mesh.specs.Safety.{part_pairs};
+ghost use Rattle.surface_mesh.specs.Safety.{IsSafeAt, part_pairs};
 ghost use Rattle.surface_mesh.specs.Setup.{IsSetup};
 ghost use Rattle.line_search.specs.Calls.PairCertificates.{ArePlaced, IsApart};
 ghost use Rattle.line_search.specs.Decisions.{most_decisions};
 
 use boundary::{Pair, Surface};
-use broad_grid::swept_pairs;
+use broad_grid::moving_pairs;
 use pair_cert::certify_pair;
 use plane_cut::Tally;
 use space3::Places;
@@ -17,7 +17,8 @@ use std::alloc::{AllocError, Global};
 use surface_mesh::Setup;
 
 // Whether each pair of parts that must not meet is certified to stay apart on the way from x to y. Only pairs whose
-// boxes touch are looked at: the others are certified by their boxes. The tally counts plane decisions.
+// boxes touch and of which some node moves are looked at: the others are certified by their boxes, or by standing apart
+// at x. The tally counts plane decisions.
 pub(crate) fn are_pairs_apart(
     alloc: Global,
     setup: &Setup,
@@ -26,6 +27,7 @@ pub(crate) fn are_pairs_apart(
     tally: &mut Tally,
 ) -> Result<bool, AllocError>
     requires built { IsSetup setup.now }
+    requires safe { IsSafeAt setup.now x.now }
     requires placed { ArePlaced setup.now.surface x.now y.now }
     ensures apart { IfOk result (λ apart.
         IsTrue apart ↔ All (IsApart x.now y.now) (part_pairs setup.now)) }
@@ -33,8 +35,8 @@ pub(crate) fn are_pairs_apart(
 {
     // Once it is read, the count is known to be one of its type.
     let _count = tally.n;
-    let touching = swept_pairs(alloc, &setup.surface, x, y)?;
-    Ok(are_apart(&setup.surface, x, y, touching.items(), tally))
+    let moving = moving_pairs(alloc, &setup.surface, x, y)?;
+    Ok(are_apart(&setup.surface, x, y, moving.items(), tally))
 }
 
 // Whether each of these pairs is.

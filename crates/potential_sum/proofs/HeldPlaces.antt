@@ -2,9 +2,7 @@
 use Rattle.std.proofs.Common.{◌≡◌, ◌∙◌, ◌&&◌, ◌<◌, ℕ, zero, suc, ℤ, ◌+ℤ◌, Bool, true, false, cond, List, [], ◌∷◌, length, map, unsigned_abs, refl, ap, sym, arith}
 use Rattle.std.specs.Prelude.{All, ◌||◌, not, slice_index, slice_index_or}
 use Rattle.std.specs.List.{filter}
-use Rattle.std.specs.Ordering.{int_eq}
 use Rattle.std.proofs.lemmas.Bool.{and_parts}
-use Rattle.std.proofs.lemmas.Bool.Decides.{Decides-int_eq}
 use Rattle.std.proofs.lemmas.List.Elements.{All-head, All-map, All-tail}
 use Rattle.std.proofs.lemmas.List.Sums.{AllPass-from_list_all}
 use Rattle.list_laws.specs.Sums.{total}
@@ -18,6 +16,7 @@ use Rattle.boundary.specs.declared.pairs.Pair.{Pair}
 use Rattle.boundary.specs.Pairs.{pairs_of, part_pair}
 use Rattle.broad_grid.specs.Held.{are_held}
 use Rattle.broad_grid.specs.Moving.{is_same}
+use Rattle.broad_grid.proofs.MovingPairs.{same_place}
 use Rattle.broad_grid.specs.NearPairs.{close_pairs_of, is_close, is_of_close_kind}
 use Rattle.surface_mesh.specs.declared.setup.Setup.{Setup}
 use Rattle.surface_mesh.specs.Setup.{IsSetup}
@@ -33,12 +32,6 @@ use Rattle.potential_sum.proofs.LooseParts.{are_held-append}
 -- each fixed node has the same place in both lists
 pub record FixedStay (fixed : List Bool) (before now : List V3) : Type 0 where
   pub each : (node : ℕ) → slice_index_or fixed node false ≡ true → place_of before node ≡ place_of now node
-
-same_place : (p q : V3) → is_same p q ≡ true → p ≡ q
-same_place p q e =
-    let first = and_parts (int_eq p.x q.x && int_eq p.y q.y) (int_eq p.z q.z) e in
-    let both = and_parts (int_eq p.x q.x) (int_eq p.y q.y) first.0 in
-    λ i. vector ((Decides-int_eq p.x q.x).0 both.0 i) ((Decides-int_eq p.y q.y).0 both.1 i) ((Decides-int_eq p.z q.z).0 first.1 i)
 
 same_places : (fixed : List Bool) (before now : List V3) (node : ℕ) → length before ≡ length fixed → length now ≡ length fixed → have_fixed_stayed fixed before now ≡ true → slice_index_or fixed node false ≡ true → place_of before node ≡ place_of now node
 same_places [] before now node m n e f = cc
