@@ -19,7 +19,7 @@ use Rattle.broad_grid.specs.declared.near.FirstPart.{FirstPart}
 use Rattle.broad_grid.specs.NearPairs.{are_boxes_within, close_pairs_of, is_close}
 use Rattle.broad_grid.specs.PartBoxes.{part_box, swept_box}
 use Rattle.broad_grid.specs.Calls.Boxes.{BoxesOfParts, HasBoxes, first_boxes, second_boxes}
-use Rattle.broad_grid.specs.Calls.Rows.{first_part, least_second, near_row, near_rows, near_rows_of_kinds, touches_moved, wanted_row}
+use Rattle.broad_grid.specs.Calls.Rows.{first_part, least_second, near_row, near_rows, near_rows_of_kinds, is_near_loose, wanted_row}
 use Rattle.broad_grid.specs.Calls.Walk.{near_pairs_of, wanted_pairs_of}
 use Rattle.broad_grid.proofs.BoxesInTheBox.{around_itself}
 
@@ -96,9 +96,9 @@ near_that_count reach s first boxes =
     turned false late apart near h = sym (and_false near)
 
 -- the rows that are wanted
-wanted_that_count : (moved : Option BoundingBox) (reach : ℕ) (s : SurfaceLists) (first : FirstPart) (boxes : List BoundingBox) →
-    wanted_row moved reach s first boxes ≡ map (pair_of first.kind first.a) (filter (λ b. (touches_moved moved first.around && are_within reach first.around (box_at boxes b)) && counts s (pair_of first.kind first.a b)) (range_with_len 0 (length boxes)))
-wanted_that_count moved reach s first boxes = one (touches_moved moved first.around)
+wanted_that_count : (loose : Option BoundingBox) (reach : ℕ) (s : SurfaceLists) (first : FirstPart) (boxes : List BoundingBox) →
+    wanted_row loose reach s first boxes ≡ map (pair_of first.kind first.a) (filter (λ b. (is_near_loose reach loose first.around && are_within reach first.around (box_at boxes b)) && counts s (pair_of first.kind first.a b)) (range_with_len 0 (length boxes)))
+wanted_that_count loose reach s first boxes = one (is_near_loose reach loose first.around)
   where
     one : (t : Bool) → (if t then near_row reach s first boxes else [])
         ≡ map (pair_of first.kind first.a) (filter (λ b. (t && are_within reach first.around (box_at boxes b)) && counts s (pair_of first.kind first.a b)) (range_with_len 0 (length boxes)))
@@ -106,16 +106,16 @@ wanted_that_count moved reach s first boxes = one (touches_moved moved first.aro
     one false = sym (ap (map (pair_of first.kind first.a)) (none_pass (range_with_len 0 (length boxes))))
 
 -- the boxes of parts, in place of their nodes
-rows_of_boxes : (moved : Option BoundingBox) (reach : ℕ) (s : SurfaceLists) (x0 x1 : List V3) (kind : PairKind) (firsts seconds : List BoundingBox) → firsts ≡ map (swept_box x0 x1) (first_parts s kind) → seconds ≡ map (swept_box x0 x1) (second_parts s kind) →
-    near_rows moved reach s kind firsts seconds ≡ rows_that_pass (λ p. touches_moved moved (swept_box x0 x1 (part_pair s p).left) && are_boxes_within reach s x0 x1 p) s kind
-rows_of_boxes moved reach s x0 x1 kind firsts seconds e f =
+rows_of_boxes : (loose : Option BoundingBox) (reach : ℕ) (s : SurfaceLists) (x0 x1 : List V3) (kind : PairKind) (firsts seconds : List BoundingBox) → firsts ≡ map (swept_box x0 x1) (first_parts s kind) → seconds ≡ map (swept_box x0 x1) (second_parts s kind) →
+    near_rows loose reach s kind firsts seconds ≡ rows_that_pass (λ p. is_near_loose reach loose (swept_box x0 x1 (part_pair s p).left) && are_boxes_within reach s x0 x1 p) s kind
+rows_of_boxes loose reach s x0 x1 kind firsts seconds e f =
     let sweep = swept_box x0 x1 in
     let m : length firsts ≡ length (first_parts s kind) = ap length e ∙ length-map (first_parts s kind) sweep in
     let n : length seconds ≡ length (second_parts s kind) = ap length f ∙ length-map (second_parts s kind) sweep in
     let first : (a : ℕ) → box_at firsts a ≡ sweep (get_or (first_parts s kind) a []) = λ a. ap (λ l. box_at l a) e ∙ get_or-map sweep (first_parts s kind) a [] in
     let second : (b : ℕ) → box_at seconds b ≡ sweep (get_or (second_parts s kind) b []) = λ b. ap (λ l. box_at l b) f ∙ get_or-map sweep (second_parts s kind) b [] in
-    (λ i. flat_map (λ a. wanted_that_count moved reach s (first_part kind firsts a) seconds i) (range_with_len 0 (length firsts)))
-    ∙ (λ i. flat_map (λ a. map (pair_of kind a) (filter (λ b. (touches_moved moved (first a i) && are_within reach (first a i) (second b i)) && counts s (pair_of kind a b)) (range_with_len 0 (n i)))) (range_with_len 0 (m i)))
+    (λ i. flat_map (λ a. wanted_that_count loose reach s (first_part kind firsts a) seconds i) (range_with_len 0 (length firsts)))
+    ∙ (λ i. flat_map (λ a. map (pair_of kind a) (filter (λ b. (is_near_loose reach loose (first a i) && are_within reach (first a i) (second b i)) && counts s (pair_of kind a b)) (range_with_len 0 (n i)))) (range_with_len 0 (m i)))
 
 vertices_first : (s : SurfaceLists) (x0 x1 : List V3) (boxes : BoxesOfParts) → HasBoxes s x0 x1 boxes → boxes.vertices ≡ map (swept_box x0 x1) (map (λ vertex. vertex ∷ []) s.vertices)
 vertices_first s x0 x1 boxes h = h.vertices ∙ composed s.vertices
@@ -136,10 +136,10 @@ seconds_are s x0 x1 boxes h VT = h.triangles
 seconds_are s x0 x1 boxes h EE = h.edges
 seconds_are s x0 x1 boxes h ET = h.triangles
 
-pub rows_are_wanted_pairs : (moved : Option BoundingBox) (reach : ℕ) (s : SurfaceLists) (x0 x1 : List V3) (boxes : BoxesOfParts) (ks : List PairKind) → HasBoxes s x0 x1 boxes → near_rows_of_kinds moved reach s boxes ks ≡ wanted_pairs_of moved reach s x0 x1 ks
-rows_are_wanted_pairs moved reach s x0 x1 boxes ks h =
-    let wanted : Pair → Bool = λ p. touches_moved moved (swept_box x0 x1 (part_pair s p).left) && are_boxes_within reach s x0 x1 p in
-    (λ i. flat_map (λ kind. rows_of_boxes moved reach s x0 x1 kind (first_boxes boxes kind) (second_boxes boxes kind) (firsts_are s x0 x1 boxes h kind) (seconds_are s x0 x1 boxes h kind) i) ks)
+pub rows_are_wanted_pairs : (loose : Option BoundingBox) (reach : ℕ) (s : SurfaceLists) (x0 x1 : List V3) (boxes : BoxesOfParts) (ks : List PairKind) → HasBoxes s x0 x1 boxes → near_rows_of_kinds loose reach s boxes ks ≡ wanted_pairs_of loose reach s x0 x1 ks
+rows_are_wanted_pairs loose reach s x0 x1 boxes ks h =
+    let wanted : Pair → Bool = λ p. is_near_loose reach loose (swept_box x0 x1 (part_pair s p).left) && are_boxes_within reach s x0 x1 p in
+    (λ i. flat_map (λ kind. rows_of_boxes loose reach s x0 x1 kind (first_boxes boxes kind) (second_boxes boxes kind) (firsts_are s x0 x1 boxes h kind) (seconds_are s x0 x1 boxes h kind) i) ks)
     ∙ sym (λ i. flat_map (λ kind. by_rows wanted s kind i) ks)
     ∙ sym (filter-flat_map wanted (pairs_of_kind s) ks)
 
@@ -150,7 +150,7 @@ no_close_rows m n kind =
     ∙ joined_empty (range_with_len 0 m)
 
 -- a box that stays is its own swept box
-stays : (reach : ℕ) (x : List V3) (left right : List ℕ) → are_within reach (swept_box x x left) (swept_box x x right) ≡ are_within reach (part_box x left) (part_box x right)
+pub stays : (reach : ℕ) (x : List V3) (left right : List ℕ) → are_within reach (swept_box x x left) (swept_box x x right) ≡ are_within reach (part_box x left) (part_box x right)
 stays reach x left right = λ i. are_within reach (around_itself (part_box x left) i) (around_itself (part_box x right) i)
 
 pub close_as_near : (reach : ℕ) (s : SurfaceLists) (x : List V3) → near_pairs_of reach s x x (VT ∷ EE ∷ []) ≡ close_pairs_of reach s x

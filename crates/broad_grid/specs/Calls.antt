@@ -1,6 +1,6 @@
 -- What private functions give.
 pub mod Boxes
 pub mod Counts
-pub mod Moved
+pub mod LooseBox
 pub mod Rows
 pub mod Walk

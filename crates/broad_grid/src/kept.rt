@@ -13,10 +13,9 @@ ghost use Rattle.broad_grid.specs.Held.{loose_close_pairs_of};
 ghost use Rattle.broad_grid.specs.Calls.Boxes.{HasBoth, has_close_boxes};
 
 use crate::boxes::{BoxLists, box_lists};
-use crate::held::loose_among;
 use crate::list::PairList;
+use crate::moving::loose_close_pairs;
 use crate::near::append_where;
-use crate::pairs::close_pairs;
 use boundary::{Pair, PairKind, Surface};
 use space3::{BoundingBox, Places, V3};
 use std::alloc::{AllocError, Global};
@@ -74,8 +73,7 @@ impl Kept {
         ensures whole { IfOk result (IsWhole surface.now) }
     {
         let places = x.copy(alloc)?;
-        let near = close_pairs(alloc, surface, x, reach + 2 * margin)?;
-        let pairs = loose_among(alloc, surface, fixed, near.items())?;
+        let pairs = loose_close_pairs(alloc, surface, fixed, x, reach + 2 * margin)?;
         let fixed = fixed.to_vec(alloc)?;
         Ok(Kept {
             places,
@@ -113,8 +111,7 @@ impl Kept {
         if have_stayed(self.margin, &self.places, x) {
             close_among(alloc, surface, x, self.reach, self.pairs.items())
         } else {
-            let close = close_pairs(alloc, surface, x, self.reach)?;
-            loose_among(alloc, surface, &self.fixed, close.items())
+            loose_close_pairs(alloc, surface, &self.fixed, x, self.reach)
         }
     }
 

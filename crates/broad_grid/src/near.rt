@@ -7,7 +7,7 @@ ghost use Rattle.boundary.specs.Pairs.{first_parts, pair_of, second_parts};
 ghost use Rattle.box_grid.specs.Near.{LiesInTheBox};
 ghost use Rattle.box_grid.specs.declared.limits.TheConstants.{REACH_LIMIT};
 ghost use Rattle.broad_grid.specs.Calls.Counts.{HasCounted};
-ghost use Rattle.broad_grid.specs.Calls.Rows.{AreFirst, HasAsMany, IsFirst, are_apart, is_apart_from, least_second, touches_moved, wanted_row, near_rows, near_rows_of_kinds};
+ghost use Rattle.broad_grid.specs.Calls.Rows.{AreFirst, HasAsMany, IsFirst, are_apart, is_apart_from, is_near_loose, least_second, wanted_row, near_rows, near_rows_of_kinds};
 ghost use Rattle.broad_grid.specs.Calls.Walk.{wanted_pairs_of};
 
 use crate::boxes::{PartBoxes, first_boxes, part_boxes, second_grid};
@@ -41,7 +41,8 @@ struct Search {
 }
 
 /// The pairs of these kinds whose parts' boxes are within the reach, where each box holds the corners of its part at
-/// both places. If there is a box of what moves, those are left out whose first part's box doesn't touch it.
+/// both places. If there is a box of what isn't fixed, those are left out whose first part's box isn't within the reach
+/// of it.
 pub(crate) fn near_pairs(
     alloc: Global,
     surface: &Surface,
@@ -49,15 +50,15 @@ pub(crate) fn near_pairs(
     x1: &Places,
     kinds: &[PairKind],
     reach: u32,
-    moved: Option<BoundingBox>,
+    loose: Option<BoundingBox>,
     tests: &mut BoxTests,
 ) -> Result<PairList, AllocError>
     requires start { HasNodes x0.now surface.now.vertices }
     requires end { HasNodes x1.now surface.now.vertices }
     requires reach { reach ≤ REACH_LIMIT }
-    requires moved { IfSome moved LiesInTheBox }
+    requires loose { IfSome loose LiesInTheBox }
     ensures pairs { IfOk result (λ pairs. pairs ≡
-        wanted_pairs_of moved reach surface.now x0.now x1.now kinds.now) }
+        wanted_pairs_of loose reach surface.now x0.now x1.now kinds.now) }
     ensures tests { tests.old.n ≤ tests.new.n }
     ensures counted { IfOk result (λ pairs. HasCounted tests.old.n tests.new.n 0 (length pairs)) }
 {
@@ -72,7 +73,7 @@ pub(crate) fn near_pairs(
         &boxes,
         kinds,
         reach,
-        moved,
+        loose,
         &mut search,
         tests,
         &mut pairs,
@@ -86,16 +87,16 @@ fn append_kinds(
     boxes: &PartBoxes,
     kinds: &[PairKind],
     reach: u32,
-    moved: Option<BoundingBox>,
+    loose: Option<BoundingBox>,
     search: &mut Search,
     tests: &mut BoxTests,
     pairs: &mut Vec<Pair>,
 ) -> Result<(), AllocError>
     requires boxes { HasAsMany surface.now boxes.now }
     requires reach { reach ≤ REACH_LIMIT }
-    requires moved { IfSome moved LiesInTheBox }
+    requires loose { IfSome loose LiesInTheBox }
     ensures pairs { IfOk result (λ _. pairs.new.items ≡
-        pairs.old.items ++ near_rows_of_kinds moved reach surface.now boxes.now kinds.now) }
+        pairs.old.items ++ near_rows_of_kinds loose reach surface.now boxes.now kinds.now) }
     ensures tests { tests.old.n ≤ tests.new.n }
     ensures counted { IfOk result (λ _. HasCounted tests.old.n tests.new.n
         (length pairs.old.items) (length pairs.new.items)) }
@@ -104,7 +105,7 @@ fn append_kinds(
         let firsts = first_boxes(boxes, *kind);
         let grid = second_grid(boxes, *kind);
         append_rows(
-            surface, *kind, firsts, grid, reach, moved, search, tests, pairs,
+            surface, *kind, firsts, grid, reach, loose, search, tests, pairs,
         )?;
     }
     Ok(())
@@ -117,7 +118,7 @@ fn append_rows(
     firsts: &[BoundingBox],
     grid: &BoxGrid,
     reach: u32,
-    moved: Option<BoundingBox>,
+    loose: Option<BoundingBox>,
     search: &mut Search,
     tests: &mut BoxTests,
     pairs: &mut Vec<Pair>,
@@ -125,9 +126,9 @@ fn append_rows(
     requires firsts { AreFirst surface.now kind firsts.now }
     requires seconds { length grid.now ≡ length (second_parts surface.now kind) }
     requires reach { reach ≤ REACH_LIMIT }
-    requires moved { IfSome moved LiesInTheBox }
+    requires loose { IfSome loose LiesInTheBox }
     ensures pairs { IfOk result (λ _. pairs.new.items ≡
-        pairs.old.items ++ near_rows moved reach surface.now kind firsts.now grid.now) }
+        pairs.old.items ++ near_rows loose reach surface.now kind firsts.now grid.now) }
     ensures tests { tests.old.n ≤ tests.new.n }
     ensures counted { IfOk result (λ _. HasCounted tests.old.n tests.new.n
         (length pairs.old.items) (length pairs.new.items)) }
@@ -138,7 +139,7 @@ fn append_rows(
             a: a as u32,
             around: firsts[a],
         };
-        append_row(surface, first, grid, reach, moved, search, tests, pairs)?;
+        append_row(surface, first, grid, reach, loose, search, tests, pairs)?;
     }
     Ok(())
 }
@@ -149,7 +150,7 @@ fn append_row(
     first: FirstPart,
     grid: &BoxGrid,
     reach: u32,
-    moved: Option<BoundingBox>,
+    loose: Option<BoundingBox>,
     search: &mut Search,
     tests: &mut BoxTests,
     pairs: &mut Vec<Pair>,
@@ -157,14 +158,14 @@ fn append_row(
     requires first { IsFirst surface.now first }
     requires seconds { length grid.now ≡ length (second_parts surface.now first.kind) }
     requires reach { reach ≤ REACH_LIMIT }
-    requires moved { IfSome moved LiesInTheBox }
+    requires loose { IfSome loose LiesInTheBox }
     ensures pairs { IfOk result (λ _. pairs.new.items ≡
-        pairs.old.items ++ wanted_row moved reach surface.now first grid.now) }
+        pairs.old.items ++ wanted_row loose reach surface.now first grid.now) }
     ensures tests { tests.old.n ≤ tests.new.n }
     ensures counted { IfOk result (λ _. HasCounted tests.old.n tests.new.n
         (length pairs.old.items) (length pairs.new.items)) }
 {
-    if !touches_moved(moved, &first.around) {
+    if !is_near_loose(reach, loose, &first.around) {
         return Ok(());
     }
     let looked_at = grid.near(reach, &first.around, least_second(first), &mut search.room)?;
@@ -175,14 +176,14 @@ fn append_row(
     append_pairs(first, &search.seconds, pairs)
 }
 
-// Whether a box has a common point with the box of what moves, if there is one.
-fn touches_moved(moved: Option<BoundingBox>, around: &BoundingBox) -> bool
-    requires moved { IfSome moved LiesInTheBox }
+// Whether a box is within the reach of the box of what isn't fixed, if there is one.
+fn is_near_loose(reach: u32, loose: Option<BoundingBox>, around: &BoundingBox) -> bool
+    requires loose { IfSome loose LiesInTheBox }
     requires around { LiesInTheBox around.now }
-    ensures { result ≡ touches_moved moved around.now }
+    ensures { result ≡ is_near_loose reach loose around.now }
 {
-    match moved {
-        Some(moved) => are_close(0, &moved, around),
+    match loose {
+        Some(loose) => are_close(reach, &loose, around),
         None => true,
     }
 }

@@ -11,7 +11,7 @@ use space3::Places;
 use std::alloc::{AllocError, Global};
 
 /// The kinds whose pairs have a distance of their own: a vertex and a triangle, and two edges.
-const CLOSE_KINDS: [PairKind; 2] = [PairKind::VT, PairKind::EE];
+pub(crate) const CLOSE_KINDS: [PairKind; 2] = [PairKind::VT, PairKind::EE];
 
 /// The pairs of the surface, in the pair order, whose parts' boxes touch: each part's box holds its corners at the
 /// start and at the end of a motion. Each vertex has a place in both lists.

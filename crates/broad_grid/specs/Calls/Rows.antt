@@ -54,15 +54,15 @@ abbrev pub near_row : ℕ → SurfaceLists → FirstPart → List BoundingBox �
 near_row reach s first boxes =
     pairs_with s first (near_positions reach first.around (least_second first.kind first.a) boxes)
 
--- a box has a common point with the box of what moves, if there is one
-abbrev pub touches_moved : Option BoundingBox → BoundingBox → Bool
-touches_moved None around = true
-touches_moved (Some moved) around = are_within 0 moved around
+-- a box is within the reach of the box of what isn't fixed, if there is one
+abbrev pub is_near_loose : ℕ → Option BoundingBox → BoundingBox → Bool
+is_near_loose reach None around = true
+is_near_loose reach (Some loose) around = are_within reach loose around
 
--- the near pairs of a first part whose box has
+-- the near pairs of a first part whose box is
 abbrev pub wanted_row : Option BoundingBox → ℕ → SurfaceLists → FirstPart → List BoundingBox → List Pair
-wanted_row moved reach s first boxes =
-    if touches_moved moved first.around then near_row reach s first boxes else []
+wanted_row loose reach s first boxes =
+    if is_near_loose reach loose first.around then near_row reach s first boxes else []
 
 -- the first part of a kind at a position
 abbrev pub first_part : PairKind → List BoundingBox → ℕ → FirstPart
@@ -70,10 +70,10 @@ first_part kind firsts a = record { kind = kind; a = a; around = box_at firsts a
 
 -- the near pairs of a kind
 abbrev pub near_rows : Option BoundingBox → ℕ → SurfaceLists → PairKind → List BoundingBox → List BoundingBox → List Pair
-near_rows moved reach s kind firsts seconds =
-    flat_map (λ a. wanted_row moved reach s (first_part kind firsts a) seconds) (range_with_len 0 (length firsts))
+near_rows loose reach s kind firsts seconds =
+    flat_map (λ a. wanted_row loose reach s (first_part kind firsts a) seconds) (range_with_len 0 (length firsts))
 
 -- the near pairs of some kinds
 abbrev pub near_rows_of_kinds : Option BoundingBox → ℕ → SurfaceLists → BoxesOfParts → List PairKind → List Pair
-near_rows_of_kinds moved reach s boxes kinds =
-    flat_map (λ kind. near_rows moved reach s kind (first_boxes boxes kind) (second_boxes boxes kind)) kinds
+near_rows_of_kinds loose reach s boxes kinds =
+    flat_map (λ kind. near_rows loose reach s kind (first_boxes boxes kind) (second_boxes boxes kind)) kinds

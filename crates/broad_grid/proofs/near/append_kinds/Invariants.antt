@@ -7,7 +7,7 @@ abbrev pub invariant-loop-kind : goal.invariant-loop-kind
 invariant-loop-kind l = record {
   pairs :
       l.pairs.items
-      ≡ l.initial.pairs.items ++ near_rows_of_kinds l.moved l.reach l.surface l.boxes (take l.kind-index l.kinds);
+      ≡ l.initial.pairs.items ++ near_rows_of_kinds l.loose l.reach l.surface l.boxes (take l.kind-index l.kinds);
   tests : l.initial.tests.n ≤ l.tests.n;
   counted : HasCounted l.initial.tests.n l.tests.n (length l.initial.pairs.items) (length l.pairs.items);
 }

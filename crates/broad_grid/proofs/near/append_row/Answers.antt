@@ -5,7 +5,7 @@ use Rattle.std.proofs.lemmas.List.{append-nil}
 use Rattle.std.proofs.lemmas.Result.{IfOk-weaker}
 use Rattle.boundary.specs.declared.pairs.Pair.{Pair}
 use Rattle.boundary.specs.Pairs.{pair_of}
-use Rattle.broad_grid.specs.Calls.Rows.{are_apart, touches_moved}
+use Rattle.broad_grid.specs.Calls.Rows.{are_apart, is_near_loose}
 use Rattle.broad_grid.proofs.AscendingRows.{found_are_there, row_is}
 use Rattle.broad_grid.proofs.near.append_row.Goals as goal
 
@@ -19,8 +19,8 @@ where_not : (b : Bool) (pairs row : List Pair) → b ≡ false → pairs ≡ pai
 where_not true pairs row e = cc
 where_not false pairs row e = sym (append-nil pairs)
 
-pub returns-then-not-touches_moved-clause-pairs : goal.returns-then-not-touches_moved-clause-pairs
-returns-then-not-touches_moved-clause-pairs c = where_not (touches_moved c.args.moved c.args.first.around) c.args.pairs.now.items _ (sym c.touches_moved.ensures ∙ c.if-not-touches_moved.true)
+pub returns-then-not-is_near_loose-clause-pairs : goal.returns-then-not-is_near_loose-clause-pairs
+returns-then-not-is_near_loose-clause-pairs c = where_not (is_near_loose c.args.reach c.args.loose c.args.first.around) c.args.pairs.now.items _ (sym c.is_near_loose.ensures ∙ c.if-not-is_near_loose.true)
 
 pub append_apart-requires-clause-there : goal.append_apart-requires-clause-there
 append_apart-requires-clause-there c =
@@ -31,11 +31,11 @@ returns-clause-pairs c =
     let s = c.args.surface.now in
     let first = c.args.first in
     let kept = c.keep_ascending.ensures in
-    let wanted : touches_moved c.args.moved first.around ≡ true = sym c.touches_moved.ensures ∙ c.if-not-touches_moved.false in
+    let wanted : is_near_loose c.args.reach c.args.loose first.around ≡ true = sym c.is_near_loose.ensures ∙ c.if-not-is_near_loose.false in
     let row =
     row_is c.args.reach s first c.args.grid.now c.least_second.result c.near.new.room c.append_apart.new.seconds.items c.keep_ascending.new.positions.items c.least_second.ensures c.in_ok-looked_at.ensures.found
     (c.in_ok-append_apart.ensures.seconds ∙ (λ i. c.clear.ensures.items i ++ filter (are_apart s first.kind first.a) (c.found.ensures i)))
     kept.rises kept.keeps kept.adds_none in
     IfOk-weaker c.append_pairs.result (λ _. _) (λ _. _)
-    (λ _ is. is ∙ ap (λ l. c.args.pairs.now.items ++ l) (ap (map (pair_of first.kind first.a)) c.deref.ensures.value ∙ row ∙ sym (where_wanted (touches_moved c.args.moved first.around) _ wanted)))
+    (λ _ is. is ∙ ap (λ l. c.args.pairs.now.items ++ l) (ap (map (pair_of first.kind first.a)) c.deref.ensures.value ∙ row ∙ sym (where_wanted (is_near_loose c.args.reach c.args.loose first.around) _ wanted)))
     c.append_pairs.ensures

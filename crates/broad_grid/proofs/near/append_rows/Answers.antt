@@ -8,7 +8,7 @@ pub loop-a-preserved : goal.loop-a-preserved
 loop-a-preserved c = record {
   pairs =
       rows_more
-      (λ a. wanted_row c.args.moved c.args.reach c.args.surface.now (first_part c.args.kind c.args.firsts.now a) c.args.grid.now)
+      (λ a. wanted_row c.args.loose c.args.reach c.args.surface.now (first_part c.args.kind c.args.firsts.now a) c.args.grid.now)
       c.loop-a.a c.args.pairs.now.items c.loop-a.pairs.items c.append_row.new.pairs.items _ c.loop-a.invariant.pairs refl
       c.in_ok-append_row.ensures.pairs;
   tests = omega (arith, c.loop-a.invariant.tests, c.in_ok-append_row.ensures.tests);

@@ -13,5 +13,5 @@ returns-clause-pairs c =
     let s = c.args.surface.now in
     c.of_vec.ensures
     ∙ c.in_ok-append_kinds.ensures.pairs
-    ∙ ap (λ start. start ++ near_rows_of_kinds c.args.moved c.args.reach s c.in_ok-boxes.boxes c.args.kinds.now) c.new-pairs.ensures.items
-    ∙ rows_are_wanted_pairs c.args.moved c.args.reach s c.args.x0.now c.args.x1.now c.in_ok-boxes.boxes c.args.kinds.now c.in_ok-boxes.ensures
+    ∙ ap (λ start. start ++ near_rows_of_kinds c.args.loose c.args.reach s c.in_ok-boxes.boxes c.args.kinds.now) c.new-pairs.ensures.items
+    ∙ rows_are_wanted_pairs c.args.loose c.args.reach s c.args.x0.now c.args.x1.now c.in_ok-boxes.boxes c.args.kinds.now c.in_ok-boxes.ensures

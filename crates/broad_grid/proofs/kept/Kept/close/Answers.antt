@@ -3,7 +3,7 @@ use Rattle.std.specs.List.{filter}
 use Rattle.std.proofs.lemmas.Result.{IfOk-weaker}
 use Rattle.broad_grid.specs.Kept.{KeptPairs, have_stayed}
 use Rattle.broad_grid.specs.NearPairs.{is_close}
-use Rattle.broad_grid.proofs.KeptAll.{all_among_kept, close_are_pairs}
+use Rattle.broad_grid.proofs.KeptAll.{all_among_kept}
 use Rattle.broad_grid.proofs.kept.Kept.close.Goals as goal
 
 pub returns-then-have_stayed-clause-whole : goal.returns-then-have_stayed-clause-whole
@@ -18,6 +18,3 @@ returns-then-have_stayed-clause-whole c =
     IfOk-weaker c.close_among.result _ _
     (λ pairs found whole. found ∙ ap (filter (is_close c.self.inside.reach s x)) c.items.ensures ∙ passed ∙ all_among_kept s kept x c.requires.each stayed whole)
     c.close_among.ensures
-
-pub loose_among-requires : goal.loose_among-requires
-loose_among-requires c = close_are_pairs c.args.surface.now c.self.inside.reach c.args.x.now c.items-else-have_stayed.result.now (c.items-else-have_stayed.ensures ∙ c.in_ok-close.ensures)

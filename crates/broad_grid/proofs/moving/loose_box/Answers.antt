@@ -2,7 +2,7 @@ use Rattle.std.proofs.Common.{ℕ, ◌<◌, List, length, refl, inl, arith, subs
 use Rattle.boundary.specs.declared.pairs.PairKind.TheVariants.{VT, EE}
 use Rattle.boundary.proofs.SurfaceParts.{first_is_edge, second_is_triangle}
 use Rattle.broad_grid.proofs.PlacedParts.{parts_placed}
-use Rattle.broad_grid.proofs.moving.moved_box.Goals as goal
+use Rattle.broad_grid.proofs.moving.loose_box.Goals as goal
 
 pub around_parts-edges-requires : goal.around_parts-edges-requires
 around_parts-edges-requires c =
