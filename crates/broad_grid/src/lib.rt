@@ -2,7 +2,8 @@
 //! by uniform grids without a look at each pair; or, where little has moved, among pairs that were kept.
 //!
 //! `pairs`: the public calls. `near`: the walk over first parts. `boxes`: the boxes of all parts. `held`: nodes that
-//! can't move. `kept`: pairs that are kept. `list`: a list of pairs. `laws`: what holds of the pairs that are left out.
+//! can't move. `moving`: pairs of which some node moves, or can. `kept`: pairs that are kept. `list`: a list of pairs.
+//! `laws`: what holds of the pairs that are left out.
 #![tactic(auto)]
 
 mod boxes;
